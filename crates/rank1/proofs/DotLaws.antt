@@ -1,0 +1,126 @@
+-- The laws of h·z.
+use mathlib.Core.Path.{_≡_, refl, sym, _∙_, ap, subst}
+use mathlib.Core.Logic.{_↔_}
+use mathlib.Core.List.{List, [], _∷_, map}
+use Prim.Native.Nat.{ℕ, zero, suc, _+_, _*_, _-_, _/_, _%_, _<_, _≤_}
+use native.Mathlib.Nat.{mul-assoc, mul-comm, one-mul, mul-add, mul-mod-left, zero-mod, add-assoc, add-mod-mod, mod-add-mod}
+use native.Mathlib.Omega.{arith}
+use lib.IntN.{ℤ, pos, negsuc, _+ℤ_, _-ℤ_, _*ℤ_, negℤ, negℤ-+ℤ, +ℤ-idl, *ℤ-zero, *ℤ-comm}
+use lib.ListN.{length}
+use Rattle.rank1.specs.Residue.{residue, dot}
+use Rattle.rank1.proofs.ResidueLaws.{residue-add, residue-mul, residue-idem, residue-mod, residue-is, difference-zero, zero-difference}
+use Rattle.rank1.proofs.Modulo.{mod-mul-left, mod-mul-right}
+use Rattle.rank1.proofs.Whole as W
+
+-- every component by its residue
+abbrev pub reduced : ℕ → List ℤ → List ℤ
+reduced n = map (λ x. pos (residue n x))
+
+-- every component u times
+abbrev pub scaled : ℤ → List ℤ → List ℤ
+scaled u = map (λ x. u *ℤ x)
+
+-- one more axis, in residues
+pub dot-cons : (n : ℕ) (h z : ℤ) (hs zs : List ℤ) → 0 < n → residue n (dot (h ∷ hs) (z ∷ zs)) ≡ ((residue n h * residue n z) % n + residue n (dot hs zs)) % n
+dot-cons n h z hs zs l =
+    residue-add n (h *ℤ z) (dot hs zs) l
+    ∙ ap (λ (k : ℕ). (k + residue n (dot hs zs)) % n) (residue-mul n h z l)
+
+-- only the residues of the components count
+pub dot-reduced : (n : ℕ) (hs zs : List ℤ) → 0 < n → residue n (dot hs zs) ≡ residue n (dot hs (reduced n zs))
+dot-reduced n [] zs l = refl
+dot-reduced n (h ∷ hs) [] l = refl
+dot-reduced n (h ∷ hs) (z ∷ zs) l =
+    dot-cons n h z hs zs l
+    ∙ ap (λ (k : ℕ). ((residue n h * residue n z) % n + k) % n) (dot-reduced n hs zs l)
+    ∙ ap (λ (k : ℕ). ((residue n h * k) % n + residue n (dot hs (reduced n zs))) % n) (sym (residue-idem n z l))
+    ∙ sym (dot-cons n h (pos (residue n z)) hs (reduced n zs) l)
+
+pub dot-scaled : (u : ℤ) (hs zs : List ℤ) → dot hs (scaled u zs) ≡ u *ℤ dot hs zs
+dot-scaled u [] zs = sym (*ℤ-zero u)
+dot-scaled u (h ∷ hs) [] = sym (*ℤ-zero u)
+dot-scaled u (h ∷ hs) (z ∷ zs) =
+    ap (λ (k : ℤ). k +ℤ dot hs (scaled u zs)) (W.mul-swap h u z)
+    ∙ ap (λ (k : ℤ). u *ℤ (h *ℤ z) +ℤ k) (dot-scaled u hs zs)
+    ∙ sym (W.mul-add u (h *ℤ z) (dot hs zs))
+
+pub residue-scaled : (n : ℕ) (u : ℤ) (hs zs : List ℤ) → 0 < n → residue n (dot hs (scaled u zs)) ≡ (residue n u * residue n (dot hs zs)) % n
+residue-scaled n u hs zs l = ap (residue n) (dot-scaled u hs zs) ∙ residue-mul n u (dot hs zs) l
+
+-- v undoes u
+unscale : (n r u v : ℕ) → 0 < n → r % n ≡ r → (u * v) % n ≡ 1 % n → (v * ((u * r) % n)) % n ≡ r
+unscale n r u v l e i =
+    mod-mul-right v (u * r) n
+    ∙ ap (λ (k : ℕ). k % n) (sym (mul-assoc v u r) ∙ ap (λ (k : ℕ). k * r) (mul-comm v u))
+    ∙ sym (mod-mul-left (u * v) r n)
+    ∙ ap (λ (k : ℕ). (k * r) % n) i
+    ∙ mod-mul-left 1 r n
+    ∙ ap (λ (k : ℕ). k % n) (one-mul r)
+    ∙ e
+
+-- scaling by a u that has an inverse keeps which rows have equal residues
+pub scaled-equal : (n : ℕ) (u v : ℤ) (hs ks zs : List ℤ) → 0 < n → residue n (u *ℤ v) ≡ 1 % n → (residue n (dot hs zs) ≡ residue n (dot ks zs)) ↔ (residue n (dot hs (scaled u zs)) ≡ residue n (dot ks (scaled u zs)))
+scaled-equal n u v hs ks zs l i = (there, back)
+  where
+    there : residue n (dot hs zs) ≡ residue n (dot ks zs) → residue n (dot hs (scaled u zs)) ≡ residue n (dot ks (scaled u zs))
+    there e = residue-scaled n u hs zs l ∙ ap (λ (k : ℕ). (residue n u * k) % n) e ∙ sym (residue-scaled n u ks zs l)
+
+    undone : (js : List ℤ) → (residue n v * residue n (dot js (scaled u zs))) % n ≡ residue n (dot js zs)
+    undone js =
+        ap (λ (k : ℕ). (residue n v * k) % n) (residue-scaled n u js zs l)
+        ∙ unscale n (residue n (dot js zs)) (residue n u) (residue n v) l (residue-mod n (dot js zs) l) (sym (residue-mul n u v l) ∙ i)
+
+    back : residue n (dot hs (scaled u zs)) ≡ residue n (dot ks (scaled u zs)) → residue n (dot hs zs) ≡ residue n (dot ks zs)
+    back e = sym (undone hs) ∙ ap (λ (k : ℕ). (residue n v * k) % n) e ∙ undone ks
+
+-- ---- a sum of terms that are not below 0, with one division at its end
+-- a factor that is not below 0, and one that is: |x| (n - z) in place of x z
+pub term-pos : (n a z : ℕ) → (a * z) % n ≡ residue n (pos a *ℤ pos z)
+term-pos n a z = refl
+
+pub term-neg : (n a z : ℕ) → 0 < n → z ≤ n → (suc a * (n - z)) % n ≡ residue n (negsuc a *ℤ pos z)
+term-neg n a z h l =
+    sym (residue-is n 0 (suc a * z) (suc a * (n - z)) (negsuc a *ℤ pos z) h (sym (+ℤ-idl (negsuc a *ℤ pos z)))
+    (ap (λ (k : ℕ). k % n) (sym (mul-add (suc a) (n - z) z) ∙ ap (λ (k : ℕ). suc a * k) whole) ∙ mul-mod-left (suc a) n ∙ sym (zero-mod n)))
+  where
+    whole : n - z + z ≡ n
+    whole = omega arith
+
+-- one turn: the sum takes the head's term, and the rest of the row is left
+pub dot-turn : (n s t : ℕ) (x z : ℤ) (hs zs : List ℤ) → 0 < n → t % n ≡ residue n (x *ℤ z) → (s + t + residue n (dot hs zs)) % n ≡ (s + residue n (dot (x ∷ hs) (z ∷ zs))) % n
+dot-turn n s t x z hs zs h e =
+    ap (λ (k : ℕ). k % n) (add-assoc s t (residue n (dot hs zs)))
+    ∙ sym (add-mod-mod s (t + residue n (dot hs zs)) n)
+    ∙ ap (λ (k : ℕ). (s + k) % n) (sym (mod-add-mod t n (residue n (dot hs zs))) ∙ ap (λ (k : ℕ). (k + residue n (dot hs zs)) % n) e ∙ sym (residue-add n (x *ℤ z) (dot hs zs) h))
+
+-- ---- differences of rows
+abbrev pub minus : List ℤ → List ℤ → List ℤ
+minus [] ks = []
+minus (h ∷ hs) [] = []
+minus (h ∷ hs) (k ∷ ks) = (h -ℤ k) ∷ minus hs ks
+
+pub dot-neg : (hs zs : List ℤ) → dot (map negℤ hs) zs ≡ negℤ (dot hs zs)
+dot-neg [] zs = refl
+dot-neg (h ∷ hs) [] = refl
+dot-neg (h ∷ hs) (z ∷ zs) =
+    ap (λ (x : ℤ). x +ℤ dot (map negℤ hs) zs) (W.neg-mul h z)
+    ∙ ap (λ (x : ℤ). negℤ (h *ℤ z) +ℤ x) (dot-neg hs zs)
+    ∙ sym (negℤ-+ℤ (h *ℤ z) (dot hs zs))
+
+pub dot-minus : (hs ks zs : List ℤ) → length hs ≡ length ks → dot (minus hs ks) zs ≡ dot hs zs -ℤ dot ks zs
+dot-minus [] [] zs e = refl
+dot-minus [] (k ∷ ks) zs e = absurd (omega arith)
+dot-minus (h ∷ hs) [] zs e = absurd (omega arith)
+dot-minus (h ∷ hs) (k ∷ ks) [] e = refl
+dot-minus (h ∷ hs) (k ∷ ks) (z ∷ zs) e =
+    ap (λ (x : ℤ). x +ℤ dot (minus hs ks) zs) (W.add-mul h (negℤ k) z ∙ ap (λ (x : ℤ). h *ℤ z +ℤ x) (W.neg-mul k z))
+    ∙ ap (λ (x : ℤ). (h *ℤ z +ℤ negℤ (k *ℤ z)) +ℤ x) (dot-minus hs ks zs (omega arith))
+    ∙ W.middle (h *ℤ z) (negℤ (k *ℤ z)) (dot hs zs) (negℤ (dot ks zs))
+    ∙ ap (λ (x : ℤ). (h *ℤ z +ℤ dot hs zs) +ℤ x) (sym (negℤ-+ℤ (k *ℤ z) (dot ks zs)))
+
+-- two rows have equal residues where their difference has the residue 0
+pub equal-by-difference : (n : ℕ) (hs ks zs : List ℤ) → 0 < n → length hs ≡ length ks → (residue n (dot hs zs) ≡ residue n (dot ks zs)) ↔ (residue n (dot (minus hs ks) zs) ≡ 0)
+equal-by-difference n hs ks zs h e = (
+  (λ p. ap (residue n) (dot-minus hs ks zs e) ∙ difference-zero n (dot hs zs) (dot ks zs) h p),
+  (λ p. zero-difference n (dot hs zs) (dot ks zs) h (ap (residue n) (sym (dot-minus hs ks zs e)) ∙ p)),
+)

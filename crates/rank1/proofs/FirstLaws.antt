@@ -1,0 +1,72 @@
+-- What the first admissible vector looks like: its first component that is not 0 divides n. For a v that does not divide n is
+-- taken below itself by a multiplier that has an inverse, and that multiple of the vector would be admissible and come before.
+use mathlib.Core.Path.{_≡_, sym, _∙_, ap}
+use mathlib.Core.Logic.{_≢_, _⊎_, inl, inr}
+use mathlib.Core.List.{List, [], _∷_}
+use Prim.Native.Nat.{ℕ, zero, suc, _+_, _*_, _/_, _%_, _<_, _≤_}
+use native.Mathlib.Nat.{mul-zero, zero-mod, div-add-mod, mul-le-mul-left, mul-one}
+use native.Mathlib.Decide.{ℕ-discrete}
+use native.Mathlib.Omega.{arith}
+use lib.IntN.{ℤ}
+use lib.ListN.{length, getD}
+use Rattle.rank1.specs.Search.{Before, First}
+use Rattle.rank1.proofs.SearchLaws.{none-before}
+use Rattle.rank1.proofs.Coprime.{Coprime, Lowered, lower}
+use Rattle.rank1.proofs.VectorLaws.{times, times-ranged, times-admissible}
+
+-- the components before j are 0
+abbrev pub Leading : List ℕ → ℕ → Type 0
+Leading z j = (i : ℕ) → i < j → getD z i 0 ≡ 0
+
+-- a multiple that is lower at the first component that is not 0 comes before
+times-before : (n u : ℕ) (z : List ℕ) (j : ℕ) → j < length z → Leading z j → (u * getD z j 0) % n < getD z j 0 → Before (times n u z) z
+unfolding Before
+times-before n u [] j h o l = absurd (omega arith)
+times-before n u (x ∷ z) zero h o l = inl l
+times-before n u (x ∷ z) (suc j) h o l = inr (nil ∙ sym (o 0 (omega arith)), times-before n u z j (omega arith) (λ i k. o (suc i) (omega arith)) l)
+  where
+    nil : (u * x) % n ≡ 0
+    nil = ap (λ (k : ℕ). (u * k) % n) (o 0 (omega arith)) ∙ ap (λ (k : ℕ). k % n) (mul-zero u) ∙ zero-mod n
+
+-- a divisor of n below n is at most its half
+divisor-half : (n v : ℕ) → v < n → n % v ≡ 0 → 2 * v ≤ n
+divisor-half n v l e = go (n / v) (div-add-mod n v)
+  where
+    go : (q : ℕ) → v * q + n % v ≡ n → 2 * v ≤ n
+    go zero w = absurd (omega (arith, mul-zero v))
+    go (suc zero) w = absurd (omega (arith, mul-one v))
+    go (suc (suc q)) w = omega (arith, mul-le-mul-left {m = 2} {n = suc (suc q)} v (omega arith))
+
+module _ (plan d : ℕ) (ks : List (List ℤ)) (n : ℕ) (z : List ℕ) (h : 0 < n) (f : First plan d ks n z) (j : ℕ) (within : j < d) (o : Leading z j) where
+  -- no multiple of the first vector by a number with an inverse comes before it
+  no-lower : (u : ℕ) → Coprime u n → (u * getD z j 0) % n < getD z j 0 → ⊥
+  no-lower u c l =
+      none-before plan d ks n z f (times n u z) (times-ranged n d u z h (f .ranged .size))
+      (times-admissible plan ks n u z h c .0 (f .admissible))
+      (times-before n u z j (omega (arith, f .ranged .size)) o l)
+
+  -- after leading zeros comes 0 or a divisor of n
+  pub first-divides : (getD z j 0 ≡ 0) ⊎ (n % getD z j 0 ≡ 0)
+  first-divides = elim (ℕ-discrete (getD z j 0) 0) [
+    | yes e ↦ inl e
+    | no e ↦ inr (second e (ℕ-discrete (n % getD z j 0) 0))
+  ]
+    where
+      second : getD z j 0 ≢ 0 → Dec (n % getD z j 0 ≡ 0) → n % getD z j 0 ≡ 0
+      second e (yes i) = i
+      second e (no i) = absurd (contra (lower n (getD z j 0) (omega arith) (f .ranged .below j within) i))
+        where
+          contra : Lowered n (getD z j 0) → ⊥
+          contra w = no-lower (w .times) (w .apart) (w .less)
+
+  -- so under every plan it is at most half of n
+  pub first-leading-half : 2 * getD z j 0 ≤ n
+  first-leading-half = go first-divides
+    where
+      go : (getD z j 0 ≡ 0) ⊎ (n % getD z j 0 ≡ 0) → 2 * getD z j 0 ≤ n
+      go (inl e) = omega arith
+      go (inr e) = divisor-half n (getD z j 0) (f .ranged .below j within) e
+
+-- in short: the first component is 0 or divides n
+pub first-component : (plan d : ℕ) (ks : List (List ℤ)) (n : ℕ) (z : List ℕ) → 0 < n → 1 ≤ d → First plan d ks n z → (getD z 0 0 ≡ 0) ⊎ (n % getD z 0 0 ≡ 0)
+first-component plan d ks n z h l f = first-divides plan d ks n z h f 0 l (λ i k. absurd (omega arith))

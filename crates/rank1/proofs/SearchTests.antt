@@ -1,0 +1,122 @@
+-- Tests that antt computes for what the searches look for: a hopeless modulus, the first vector at a modulus, the smallest
+-- plan, and that there is none. Each tries every vector in range, and where it holds, the definition does, for all inputs. Only
+-- the trial tickets rest on these.
+use mathlib.Core.Path.{refl, subst}
+use mathlib.Core.Logic.{⊎-elim}
+use mathlib.Core.Bool.{Bool, true, false, not, _&&_, _||_}
+use mathlib.Core.List.{List, [], _∷_, map, List·Memᴰ, List·Memᴰ·head, List·Memᴰ·tail}
+use Prim.Native.Nat.{ℕ, zero, suc, _+_, _<_, _≤_}
+use native.Mathlib.Omega.{arith}
+use lib.Dec.{T, eqb, ltb, leb, eqb→eq, eqb-refl, lt→ltb, leb→le, T-not}
+use lib.IntN.{ℤ, pos}
+use Rattle.rank1.specs.Tests.{every, upFrom, upTo}
+use Rattle.rank1.specs.Index.{headed}
+use Rattle.rank1.specs.RuleTest.{admissible}
+use Rattle.rank1.specs.Search.{Before, InRange, Hopeless, First, Smallest, NoPlan}
+use Rattle.rank1.specs.Refusal.{badVector}
+use Rattle.rank1.proofs.Order.{compared}
+use Rattle.rank1.proofs.Headed.{headed-in}
+use Rattle.rank1.proofs.SearchLaws.{first-of, hopeless-ranged}
+use Rattle.rank1.proofs.TestLaws.{both, joined, decides-not, every-at}
+use Rattle.rank1.proofs.RuleTestLaws.{decides-rule}
+use Rattle.rank1.proofs.ValidLaws.{valid-vector}
+
+-- ---- all vectors in range
+counted-in : (i k a : ℕ) → i ≤ a → a < i + k → List·Memᴰ a (upFrom i k)
+counted-in i zero a l h = absurd (omega arith)
+counted-in i (suc k) a l h =
+    ⊎-elim (λ m. List·Memᴰ·tail (counted-in (suc i) k a (omega arith) (omega arith)))
+    (⊎-elim (λ e. List·Memᴰ·head (omega arith)) (λ m. absurd (omega arith)))
+    (compared i a)
+
+pub upTo-in : (n a : ℕ) → a < n → List·Memᴰ a (upTo n)
+upTo-in n a l = counted-in 0 n a (omega arith) (omega arith)
+
+abbrev pub vectors : ℕ → ℕ → List (List ℕ)
+vectors n zero = [] ∷ []
+vectors n (suc d) = headed (upTo n) (vectors n d)
+
+pub vectors-in : (n d : ℕ) (z : List ℕ) → InRange n d z → List·Memᴰ z (vectors n d)
+vectors-in n zero [] r = List·Memᴰ·head refl
+vectors-in n zero (a ∷ z) r = absurd (omega (arith, r .size))
+vectors-in n (suc d) [] r = absurd (omega (arith, r .size))
+vectors-in n (suc d) (a ∷ z) r =
+    headed-in (upTo n) (vectors n d) a z (upTo-in n a (r .below 0 (omega arith)))
+    (vectors-in n d z (record { size = omega (arith, r .size); below = λ j l. r .below (suc j) (omega arith) }))
+
+-- ---- the order
+abbrev precedes : List ℕ → List ℕ → Bool
+precedes [] z = false
+precedes (a ∷ y) [] = false
+precedes (a ∷ y) (b ∷ z) = ltb a b || (eqb a b && precedes y z)
+
+left-holds : (a b : Bool) → T a → T (a || b)
+left-holds true b t = tt
+left-holds false b t = absurd t
+
+right-holds : (a b : Bool) → T b → T (a || b)
+right-holds true b t = tt
+right-holds false b t = t
+
+before-precedes : (y z : List ℕ) → Before y z → T (precedes y z)
+unfolding Before
+before-precedes [] z b = b
+before-precedes (a ∷ y) [] b = b
+before-precedes (a ∷ y) (c ∷ z) b =
+    ⊎-elim
+    (λ l. left-holds (ltb a c) (eqb a c && precedes y z) (lt→ltb a c l))
+    (λ p. right-holds (ltb a c) (eqb a c && precedes y z) (joined (eqb a c) (precedes y z) (subst (λ (x : ℕ). T (eqb a x)) (p .0) (eqb-refl a)) (before-precedes y z (p .1))))
+    b
+
+-- ---- the searches
+module _ (plan d : ℕ) (ks : List (List ℤ)) where
+  abbrev passes : ℕ → List ℕ → Bool
+  passes n z = admissible ks n (map pos z) plan
+
+  -- no vector in range passes
+  abbrev pub hopelessTest : ℕ → Bool
+  hopelessTest n = every (λ y. not (passes n y)) (vectors n d)
+
+  pub hopeless-holds : (n : ℕ) → 0 < n → T (hopelessTest n) → Hopeless plan d ks n
+  hopeless-holds n l t =
+      hopeless-ranged plan d ks n l
+      (λ y r. decides-not (passes n y) (decides-rule ks n (map pos y) plan) .0 (every-at (λ x. not (passes n x)) (vectors n d) t y (vectors-in n d y r)))
+
+  -- every modulus from 1 to below the bound is hopeless
+  abbrev pub noneBelow : ℕ → Bool
+  noneBelow c = every hopelessTest (upTo c)
+
+  none-holds : (c : ℕ) → T (noneBelow c) → (m : ℕ) → 1 ≤ m → m < c → Hopeless plan d ks m
+  none-holds c t m l h = hopeless-holds m l (every-at hopelessTest (upTo c) t m (upTo-in c m h))
+
+  pub no-plan-holds : (c : ℕ) → T (noneBelow (suc c)) → NoPlan plan d ks c
+  unfolding NoPlan
+  no-plan-holds c t = λ n l h. none-holds (suc c) t n l (omega arith)
+
+  -- z is in range and passes, and no vector before it does
+  abbrev later : ℕ → List ℕ → List ℕ → Bool
+  later n z y = not (passes n y && precedes y z)
+
+  abbrev pub firstTest : ℕ → List ℕ → Bool
+  firstTest n z = eqb (badVector d n z) 0 && (passes n z && every (later n z) (vectors n d))
+
+  pub first-holds : (n : ℕ) (z : List ℕ) → T (firstTest n z) → First plan d ks n z
+  first-holds n z t =
+      let u = both (eqb (badVector d n z) 0) (passes n z && every (later n z) (vectors n d)) t in
+      let v = both (passes n z) (every (later n z) (vectors n d)) (u .1) in
+      first-of plan d ks n z
+      (valid-vector d n z .0 (eqb→eq (badVector d n z) 0 (u .0)))
+      (decides-rule ks n (map pos z) plan .0 (v .0))
+      (λ y r a b. T-not (passes n y && precedes y z) (every-at (later n z) (vectors n d) (v .1) y (vectors-in n d y r))
+      (joined (passes n y) (precedes y z) (decides-rule ks n (map pos y) plan .1 a) (before-precedes y z b)))
+
+  -- z is first at n, and every smaller modulus is hopeless
+  abbrev pub smallestTest : ℕ → List ℕ → Bool
+  smallestTest n z = leb 1 n && (firstTest n z && noneBelow n)
+
+  -- for every ceiling that lets n in
+  pub smallest-holds : (n : ℕ) (z : List ℕ) → T (smallestTest n z) → (ceiling : ℕ) → n ≤ ceiling → Smallest plan d ks ceiling n z
+  smallest-holds n z t ceiling h =
+      let u = both (leb 1 n) (firstTest n z && noneBelow n) t in
+      let v = both (firstTest n z) (noneBelow n) (u .1) in
+      record { low = leb→le 1 n (u .0); high = h; first = first-holds n z (v .0); smaller-fail = none-holds n (v .1) }

@@ -1,0 +1,131 @@
+-- The trial tickets of document 01: one table, and one theorem over it. Each entry is the smallest plan for its rows, whatever
+-- the ceiling, and has the c printed there. Beside it row (6) under plan 0, and two lines of a point list.
+use mathlib.Core.Path.{_≡_, refl, sym, _∙_, ap}
+use mathlib.Core.Logic.{_≢_}
+use mathlib.Core.Bool.{Bool, true, _&&_}
+use mathlib.Core.List.{List, [], _∷_, map, List·Memᴰ}
+use Prim.Native.Nat.{ℕ, _≤_}
+use native.Mathlib.Omega.{arith}
+use lib.Dec.{T}
+use lib.IntN.{ℤ, pos, natAbs}
+use Rattle.rank1.specs.Tests.{sameRow}
+use Rattle.rank1.specs.RuleTest.{admissible}
+use Rattle.rank1.specs.Search.{Hopeless, First, Smallest, NoPlan}
+use Rattle.rank1.specs.Sums.{copies}
+use Rattle.rank1.specs.Points.{pointLine}
+use Rattle.rank1.proofs.SearchLaws.{Answer, plan-of, Answers, determined}
+use Rattle.rank1.proofs.TestLaws.{both, every-at, decides-row}
+use Rattle.rank1.proofs.SearchTests.{smallestTest, smallest-holds, first-holds, hopeless-holds, no-plan-holds}
+
+-- a ticket, its answer, and the c of its rows, [] where none is printed
+pub record Ticket : Type 0 where
+  pub plan : ℕ
+  pub axes : ℕ
+  pub rows : List (List ℕ)
+  pub modulus : ℕ
+  pub vector : List ℕ
+  pub counts : List ℕ
+
+abbrev ticket : ℕ → ℕ → List (List ℕ) → ℕ → List ℕ → List ℕ → Ticket
+ticket p d ks n z cs = record { plan = p; axes = d; rows = ks; modulus = n; vector = z; counts = cs }
+
+-- the rows 0, 1, 2
+abbrev line : List (List ℕ)
+line = (0 ∷ []) ∷ (1 ∷ []) ∷ (2 ∷ []) ∷ []
+
+-- the rows (0,0), (1,0), (0,1)
+abbrev corner : List (List ℕ)
+corner = (0 ∷ 0 ∷ []) ∷ (1 ∷ 0 ∷ []) ∷ (0 ∷ 1 ∷ []) ∷ []
+
+-- the row (1,1)
+abbrev single : List (List ℕ)
+single = (1 ∷ 1 ∷ []) ∷ []
+
+abbrev pub tickets : List Ticket
+tickets =
+    ticket 1 1 line 3 (1 ∷ []) []
+    ∷ ticket 2 1 line 5 (1 ∷ []) []
+    ∷ ticket 3 1 line 5 (1 ∷ []) []
+    ∷ ticket 4 1 line 4 (1 ∷ []) (1 ∷ 1 ∷ 2 ∷ [])
+    ∷ ticket 1 2 corner 3 (1 ∷ 2 ∷ []) []
+    ∷ ticket 2 2 corner 5 (1 ∷ 2 ∷ []) []
+    ∷ ticket 4 2 corner 4 (1 ∷ 2 ∷ []) []
+    ∷ ticket 2 2 single 5 (1 ∷ 2 ∷ []) []
+    ∷ ticket 3 2 single 3 (1 ∷ 1 ∷ []) []
+    ∷ ticket 4 2 single 1 (0 ∷ 0 ∷ []) (4 ∷ [])
+    ∷ []
+
+-- ---- what is claimed of each
+module _ (t : Ticket) where
+  abbrev pub listOf : List (List ℤ)
+  listOf = map (map pos) (t .rows)
+
+  abbrev pub countsOf : List ℕ
+  countsOf = map (copies (t .plan) (t .modulus) (map pos (t .vector))) listOf
+
+  pub record Trial : Type 0 where
+    pub smallest : (ceiling : ℕ) → t .modulus ≤ ceiling → Smallest (t .plan) (t .axes) listOf ceiling (t .modulus) (t .vector)
+    pub counted : t .counts ≢ [] → countsOf ≡ t .counts
+
+-- none is printed, or these
+abbrev printed : List ℕ → List ℕ → Bool
+printed [] ds = true
+printed (c ∷ cs) ds = sameRow (map pos ds) (map pos (c ∷ cs))
+
+whole-back : (cs : List ℕ) → map natAbs (map pos cs) ≡ cs
+whole-back [] = refl
+whole-back (c ∷ cs) = ap (λ (l : List ℕ). c ∷ l) (whole-back cs)
+
+printed-holds : (cs ds : List ℕ) → T (printed cs ds) → cs ≢ [] → ds ≡ cs
+printed-holds [] ds t h = absurd (h refl)
+printed-holds (c ∷ cs) ds t h = sym (whole-back ds) ∙ ap (map natAbs) (decides-row (map pos ds) (map pos (c ∷ cs)) .0 t) ∙ whole-back (c ∷ cs)
+
+abbrev passes : Ticket → Bool
+passes t = smallestTest (t .plan) (t .axes) (listOf t) (t .modulus) (t .vector) && printed (t .counts) (countsOf t)
+
+-- every ticket of the table, by computing
+pub trials : (t : Ticket) → List·Memᴰ t tickets → Trial t
+unfolding admissible
+trials t m =
+    let u = both (smallestTest (t .plan) (t .axes) (listOf t) (t .modulus) (t .vector)) (printed (t .counts) (countsOf t)) (every-at passes tickets tt t m) in
+    record {
+      smallest = smallest-holds (t .plan) (t .axes) (listOf t) (t .modulus) (t .vector) (u .0);
+      counted = printed-holds (t .counts) (countsOf t) (u .1);
+    }
+
+-- so whatever answers a ticket's list, plan and ceiling is what the table says
+pub trial-answers : (t : Ticket) → List·Memᴰ t tickets → (ceiling : ℕ) → t .modulus ≤ ceiling → (a : Answer) → Answers (t .plan) (t .axes) (listOf t) ceiling a → a ≡ plan-of (t .modulus) (t .vector)
+trial-answers t m ceiling l a p = determined (t .plan) (t .axes) (listOf t) ceiling a (plan-of (t .modulus) (t .vector)) p (trials t m .smallest ceiling l)
+
+-- ---- plan 0, row (6)
+abbrev pub six : List (List ℤ)
+six = (pos 6 ∷ []) ∷ []
+
+pub six-smallest : (ceiling : ℕ) → 4 ≤ ceiling → Smallest 0 1 six ceiling 4 (1 ∷ [])
+unfolding admissible
+six-smallest = smallest-holds 0 1 six 4 (1 ∷ []) tt
+
+pub six-none : NoPlan 0 1 six 3
+unfolding admissible
+six-none = no-plan-holds 0 1 six 3 tt
+
+-- a larger modulus may be worse: 4, 5 and 7 have a vector, and 6 has none
+pub six-at-four : First 0 1 six 4 (1 ∷ [])
+unfolding admissible
+six-at-four = first-holds 0 1 six 4 (1 ∷ []) tt
+
+pub six-at-five : First 0 1 six 5 (1 ∷ [])
+unfolding admissible
+six-at-five = first-holds 0 1 six 5 (1 ∷ []) tt
+
+pub six-at-six : Hopeless 0 1 six 6
+unfolding admissible
+six-at-six = hopeless-holds 0 1 six 6 (omega arith) tt
+
+pub six-at-seven : First 0 1 six 7 (1 ∷ [])
+unfolding admissible
+six-at-seven = first-holds 0 1 six 7 (1 ∷ []) tt
+
+-- ---- at n = 5, z = (1, 2), line 3: the residues under plan 1, the tent numerators under plan A
+pub line-three : (pointLine 1 5 (1 ∷ 2 ∷ []) 3 ≡ 3 ∷ 1 ∷ []) × (pointLine 2 5 (1 ∷ 2 ∷ []) 3 ≡ 4 ∷ 2 ∷ [])
+line-three = (refl, refl)

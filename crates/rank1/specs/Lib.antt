@@ -1,0 +1,12 @@
+-- What a reader has to believe: the terms of document 01, a file for each of its sections, in its order. The laws of these
+-- definitions stand in proofs/.
+pub mod Tests
+pub mod Residue
+pub mod Index
+pub mod Rule
+pub mod RuleTest
+pub mod Search
+pub mod Sums
+pub mod Points
+pub mod Refusal
+pub mod Valid

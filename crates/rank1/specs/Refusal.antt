@@ -1,0 +1,122 @@
+-- The refusal table (document 01): the conditions with their numbers, and for each call those that concern its arguments, in
+-- its order. (9 is the searches' own: see Search.antt. 12 is the program's.)
+use mathlib.Core.Bool.{Bool, false, cond, not, _&&_, _||_}
+use mathlib.Core.List.{List, [], _∷_, _++_, map}
+use Prim.Native.Nat.{ℕ, zero, suc, _*_, _%_}
+use lib.Dec.{eqb, leb, ltb}
+use lib.IntN.{ℤ, pos, natAbs}
+use lib.Signed.{ltZ}
+use lib.ListN.{length}
+use Rattle.rank1.specs.Tests.{every, any, sameRow}
+use Rattle.rank1.specs.Index.{rowCount, indexList}
+use Rattle.rank1.specs.RuleTest.{admissible}
+use Rattle.rank1.specs.Sums.{gathers}
+use Rattle.rank1.specs.Points.{lineCount}
+
+-- a condition's number where it applies, else 0
+abbrev pub refuse : ℕ → Bool → ℕ
+refuse number applies = cond applies number 0
+
+-- the number of the first condition that applies, 0 for none
+abbrev pub firstOf : List ℕ → ℕ
+firstOf [] = 0
+firstOf (zero ∷ ks) = firstOf ks
+firstOf (suc k ∷ ks) = suc k
+
+-- from low to high
+abbrev pub within : ℕ → ℕ → ℕ → Bool
+within low high x = leb low x && leb x high
+
+-- a component outside its range: -255 to 255, and for plans 2, 3 and 4 not negative
+abbrev pub outside : ℕ → ℤ → Bool
+outside plan x = ltb 255 (natAbs x) || (leb 2 plan && ltZ x (pos 0))
+
+-- two rows are equal
+abbrev pub repeats : List (List ℤ) → Bool
+repeats [] = false
+repeats (k ∷ ks) = any (sameRow k) ks || repeats ks
+
+-- 1: plan above 4; for map, spread and gather also plan 0
+abbrev pub badPlan : ℕ → ℕ
+badPlan plan = refuse 1 (ltb 4 plan)
+
+abbrev pub badMapPlan : ℕ → ℕ
+badMapPlan plan = refuse 1 (ltb 4 plan || eqb plan 0)
+
+-- 2: d not 1 to 6
+abbrev pub badAxes : ℕ → ℕ
+badAxes d = refuse 2 (not (within 1 6 d))
+
+-- 3: list empty, length no multiple of d, or more than 512 rows
+abbrev pub badLength : ℕ → List ℤ → ℕ
+badLength d xs = refuse 3 (eqb (length xs) 0 || (not (eqb (length xs % d) 0) || ltb 512 (rowCount d xs)))
+
+-- 4: a component outside its range
+abbrev pub badComponent : ℕ → List ℤ → ℕ
+badComponent plan xs = refuse 4 (any (outside plan) xs)
+
+-- 5: two equal rows
+abbrev pub equalRows : ℕ → List ℤ → ℕ
+equalRows d xs = refuse 5 (repeats (indexList d xs))
+
+-- 6: n or N not 1 to 8192
+abbrev pub badModulus : ℕ → ℕ
+badModulus n = refuse 6 (not (within 1 8192 n))
+
+-- 7: z not d long, or a component n or more
+abbrev pub badVector : ℕ → ℕ → List ℕ → ℕ
+badVector d n z = refuse 7 (not (eqb (length z) d) || any (leb n) z)
+
+-- 8: an output, or the lent terms or sums, not of the exact length
+abbrev pub badPlaces : ℕ → ℕ → ℕ
+badPlaces places size = refuse 8 (not (eqb places size))
+
+-- 10: map, spread, gather: pair not admissible
+abbrev pub inadmissible : ℕ → List (List ℤ) → ℕ → List ℕ → ℕ
+inadmissible plan ks n z = refuse 10 (not (admissible ks n (map pos z) plan))
+
+-- 11: gather: a sum no multiple of c, or a quotient outside 32 bits
+abbrev pub ungatherable : ℕ → List (List ℤ) → ℕ → List ℕ → List ℤ → ℕ
+ungatherable plan ks n z sums = refuse 11 (not (every (gathers plan n (map pos z) sums) ks))
+
+-- ---- what the calls refuse
+-- a list: 2 to 5
+abbrev pub listConditions : ℕ → ℕ → List ℤ → List ℕ
+listConditions plan d xs = badAxes d ∷ badLength d xs ∷ badComponent plan xs ∷ equalRows d xs ∷ []
+
+-- a pair n, z: 6 and 7
+abbrev pub pairConditions : ℕ → ℕ → List ℕ → List ℕ
+pairConditions d n z = badModulus n ∷ badVector d n z ∷ []
+
+-- check: 1 2 3 4 5 6 7
+unfoldable pub checkRefusal : ℕ → ℕ → List ℤ → ℕ → List ℕ → ℕ
+checkRefusal plan d xs n z = firstOf (badPlan plan ∷ listConditions plan d xs ++ pairConditions d n z)
+
+-- map: 1 (also plan 0) 2 3 4 5 6 7 8 10
+unfoldable pub mapRefusal : ℕ → ℕ → List ℤ → ℕ → List ℕ → ℕ → ℕ
+mapRefusal plan d xs n z places =
+    firstOf (badMapPlan plan ∷ listConditions plan d xs ++ pairConditions d n z
+    ++ (badPlaces places (2 * rowCount d xs) ∷ inadmissible plan (indexList d xs) n z ∷ []))
+
+-- spread: the same
+unfoldable pub spreadRefusal : ℕ → ℕ → List ℤ → ℕ → List ℕ → ℕ → ℕ → ℕ
+spreadRefusal plan d xs n z terms sums =
+    firstOf (badMapPlan plan ∷ listConditions plan d xs ++ pairConditions d n z
+    ++ (badPlaces terms (rowCount d xs) ∷ badPlaces sums n ∷ inadmissible plan (indexList d xs) n z ∷ []))
+
+-- gather: the same, then 11
+unfoldable pub gatherRefusal : ℕ → ℕ → List ℤ → ℕ → List ℕ → List ℤ → ℕ → ℕ
+gatherRefusal plan d xs n z sums terms =
+    firstOf (badMapPlan plan ∷ listConditions plan d xs ++ pairConditions d n z
+    ++ (badPlaces terms (rowCount d xs) ∷ badPlaces (length sums) n ∷ inadmissible plan (indexList d xs) n z
+    ∷ ungatherable plan (indexList d xs) n z sums ∷ []))
+
+-- point list: 1 2 6 7 8
+unfoldable pub pointRefusal : ℕ → ℕ → ℕ → List ℕ → ℕ → ℕ
+pointRefusal plan d n z places =
+    firstOf (badPlan plan ∷ badAxes d ∷ pairConditions d n z ++ (badPlaces places (lineCount plan n * d) ∷ []))
+
+-- the searches, at the modulus n or up to the ceiling n: 1 2 3 4 5 6 8, and then 9
+unfoldable pub searchRefusal : ℕ → ℕ → List ℤ → ℕ → ℕ → ℕ
+searchRefusal plan d xs n places =
+    firstOf (badPlan plan ∷ listConditions plan d xs ++ (badModulus n ∷ badPlaces places d ∷ []))
