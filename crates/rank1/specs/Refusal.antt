@@ -92,22 +92,26 @@ pairConditions d n z = badModulus n ∷ badVector d n z ∷ []
 unfoldable pub checkRefusal : ℕ → ℕ → List ℤ → ℕ → List ℕ → ℕ
 checkRefusal plan d xs n z = firstOf (badPlan plan ∷ listConditions plan d xs ++ pairConditions d n z)
 
--- map: 1 (also plan 0) 2 3 4 5 6 7 8 10
+-- a list and a pair in map, spread and gather: 1 (also plan 0) 2 3 4 5 6 7
+abbrev pub tableConditions : ℕ → ℕ → List ℤ → ℕ → List ℕ → List ℕ
+tableConditions plan d xs n z = badMapPlan plan ∷ listConditions plan d xs ++ pairConditions d n z
+
+-- map: those, 8 and 10
 unfoldable pub mapRefusal : ℕ → ℕ → List ℤ → ℕ → List ℕ → ℕ → ℕ
 mapRefusal plan d xs n z places =
-    firstOf (badMapPlan plan ∷ listConditions plan d xs ++ pairConditions d n z
+    firstOf (tableConditions plan d xs n z
     ++ (badPlaces places (2 * rowCount d xs) ∷ inadmissible plan (indexList d xs) n z ∷ []))
 
 -- spread: the same
 unfoldable pub spreadRefusal : ℕ → ℕ → List ℤ → ℕ → List ℕ → ℕ → ℕ → ℕ
 spreadRefusal plan d xs n z terms sums =
-    firstOf (badMapPlan plan ∷ listConditions plan d xs ++ pairConditions d n z
+    firstOf (tableConditions plan d xs n z
     ++ (badPlaces terms (rowCount d xs) ∷ badPlaces sums n ∷ inadmissible plan (indexList d xs) n z ∷ []))
 
 -- gather: the same, then 11
 unfoldable pub gatherRefusal : ℕ → ℕ → List ℤ → ℕ → List ℕ → List ℤ → ℕ → ℕ
 gatherRefusal plan d xs n z sums terms =
-    firstOf (badMapPlan plan ∷ listConditions plan d xs ++ pairConditions d n z
+    firstOf (tableConditions plan d xs n z
     ++ (badPlaces terms (rowCount d xs) ∷ badPlaces (length sums) n ∷ inadmissible plan (indexList d xs) n z
     ∷ ungatherable plan (indexList d xs) n z sums ∷ []))
 

@@ -1,0 +1,403 @@
+-- The steps of the search, as laws on lists. Components are tried from 0 up: what is passed over begins no first vector, what is
+-- found has none before it, and the tables of the axes before the component stay. Then what a component that is tried gives, the
+-- rule on a level, the first vector and the moduli upward.
+use mathlib.Core.Path.{_≡_, refl, sym, ap, _∙_, subst}
+use mathlib.Core.Logic.{_↔_, ⊎-elim}
+use mathlib.Core.Bool.{Bool, true, false, _||_}
+use mathlib.Core.List.{List, [], _∷_, map, List·Memᴰ}
+use Prim.Native.Nat.{ℕ, zero, suc, _+_, _*_, _/_, _%_, _<_, _≤_}
+use native.Mathlib.Numerals.{add-one}
+use native.Mathlib.Omega.{arith}
+use borrow.Author.Count.{below-more}
+use borrow.Author.Tests.{eqb-false}
+use lib.Dec.{eqb}
+use lib.IntN.{ℤ, pos, _+ℤ_, _*ℤ_, zero-*ℤ, +ℤ-idl}
+use lib.ListN.{length, getD, set, take, drop, length-set, length-drop}
+use lib.Seq.{getD-set-same, getD-set-other, getD-take, length-take-le, take-all, take-set-le, ext-getD}
+use Rattle.rank1.specs.Residue.{residue, dot, residueAt}
+use Rattle.rank1.specs.Index.{rowCount, indexList}
+use Rattle.rank1.specs.Rule.{Admissible}
+use Rattle.rank1.specs.Search.{Before, First, Hopeless}
+use Rattle.rank1.specs.Valid.{Nonnegative, ValidModulus}
+use Rattle.rank1.proofs.TestLaws.{either-false}
+use Rattle.rank1.proofs.IndexLaws.{rows-length}
+use Rattle.rank1.proofs.RuleLaws.{part, same-residues, apart-rows, mirror-zero}
+use Rattle.rank1.proofs.Order.{compared, before-irrefl}
+use Rattle.rank1.proofs.SearchLaws.{is-first, hopeless}
+use Rattle.rank1.proofs.FirstLaws.{first-component}
+use Rattle.rank1.proofs.CountingLaws.{few-hopeless}
+use Rattle.planner.specs.Inner.{place, Products, AxisSet, ZeroFrom, Ready, Decides}
+use Rattle.planner.specs.Stage.{ending, levelRun, searched, Levels, Stage, Fine, Agree, NoFirstFrom, KeptBelow, Completed, Decided, Ascended}
+use Rattle.planner.proofs.ProductLaws.{place-lt, products-none, set-products}
+use Rattle.planner.proofs.LevelLaws.{zero-from, ending-out, ending-all, LevelReady, level-ready}
+
+-- a flag is not both
+pub true-false : {A : Type 0} → true ≡ false → A
+true-false e = absurd (let z : _≡_ {A = ℕ} 0 1 = cc in omega arith)
+
+pub false-true : {A : Type 0} → false ≡ true → A
+false-true e = absurd (let z : _≡_ {A = ℕ} 0 1 = cc in omega arith)
+
+-- ---- vectors with the same beginning
+-- vectors of one length that agree throughout are one
+pub agree-all : (y x : List ℕ) → length y ≡ length x → Agree (length x) y x → y ≡ x
+agree-all y x l same = ext-getD 0 y x l (λ i h. same i (omega arith))
+
+-- one component more
+pub agree-more : (k : ℕ) (y z : List ℕ) → Agree k y z → getD y k 0 ≡ getD z k 0 → Agree (k + 1) y z
+agree-more k y z below here = below-more (λ i. getD y i 0 ≡ getD z i 0) k below here
+
+-- the beginnings are one list
+pub agree-take : (k : ℕ) (y z : List ℕ) → k ≤ length y → k ≤ length z → Agree k y z → take k y ≡ take k z
+agree-take k y z ly lz same =
+    ext-getD 0 (take k y) (take k z) (length-take-le k y ly ∙ sym (length-take-le k z lz))
+    (λ i h.
+    let l : i < k = omega (arith, length-take-le k y ly) in
+    getD-take k y i 0 l ∙ same i l ∙ sym (getD-take k z i 0 l))
+
+-- y agrees with x below k and is greater at k: it does not come before x
+pub not-after : (k : ℕ) (y x : List ℕ) → Agree k y x → getD x k 0 < getD y k 0 → Before y x → ⊥
+unfolding Before
+not-after k [] x same less b = b
+not-after k (a ∷ y) [] same less b = b
+not-after zero (a ∷ y) (c ∷ x) same less b = ⊎-elim (λ l. omega arith) (λ p. omega arith) b
+not-after (suc k) (a ∷ y) (c ∷ x) same less b =
+    let e : a ≡ c = same 0 (omega arith) in
+    ⊎-elim (λ l. omega arith) (λ p. not-after k y x (λ i l. same (suc i) (omega arith)) less (p .1)) b
+
+-- ---- the tables
+-- what is set of z's axes stays where the entries of these axes do
+pub products-kept : (n top : ℕ) (z old new : List ℕ) → top ≤ 255 → length new ≡ length old → KeptBelow (length z) old new → Products n z top old → Products n z top new
+products-kept n top z old new narrow e kept p = record {
+  size = e ∙ p .size;
+  entry = λ j x h b. kept (j * 512 + place x) (omega (arith, place-lt x (omega arith))) ∙ p .entry j x h b;
+}
+
+module _ (plan d top : ℕ) (runs : List ℤ) (sizes : List ℕ) (n at : ℕ) where
+  -- the stage is the same with another vector that begins so and tables that are the same for the axes before it
+  pub stage-kept : (z₀ p₀ o₀ z p o : List ℕ) → length z ≡ length z₀ → Agree at z z₀ → length p ≡ length p₀ → KeptBelow at p₀ p → length o ≡ length o₀ → Stage plan d top runs sizes n at z₀ p₀ o₀ → Stage plan d top runs sizes n at z p o
+  stage-kept z₀ p₀ o₀ z p o lz same lp kept lo s =
+      let within : at ≤ length z₀ = omega (arith, s .within, s .size) in
+      let begins : take at z ≡ take at z₀ = agree-take at z z₀ (omega arith) within same in
+      record {
+        levels = s .levels;
+        modulus = s .modulus;
+        within = s .within;
+        size = lz ∙ s .size;
+        below = λ j l. omega (arith, same j l, s .below j l);
+        table-size = lp ∙ s .table-size;
+        entries =
+            subst (λ (y : List ℕ). Products n y top p) (sym begins)
+            (products-kept n top (take at z₀) p₀ p (s .levels .covers .narrow) lp
+            (λ i l. kept i (omega (arith, length-take-le at z₀ within))) (s .entries));
+        owner-room = omega (arith, s .owner-room);
+      }
+
+  -- and with another table of owners that is as long
+  pub stage-owners : {z p o o′ : List ℕ} → Stage plan d top runs sizes n at z p o → length o′ ≡ length o → Stage plan d top runs sizes n at z p o′
+  stage-owners {z} {p} {o} {o′} s e = stage-kept z p o z p o′ refl (λ i l. refl) refl (λ i l. refl) e s
+
+-- ---- component k: the values below v are passed
+-- z and the tables are what stands there now; no first vector that begins as z₀ below k has a value below v there
+pub record Passed (plan d : ℕ) (ks : List (List ℤ)) (n k : ℕ) (z₀ p₀ o₀ z p o : List ℕ) (v : ℕ) : Type 0 where
+  pub size : length z ≡ length z₀
+  pub kept : Agree k z z₀
+  pub table-size : length p ≡ length p₀
+  pub table : KeptBelow k p₀ p
+  pub owner-size : length o ≡ length o₀
+  pub low : v ≤ n
+  pub none : (y : List ℕ) → First plan d ks n y → Agree k y z₀ → getD y k 0 < v → ⊥
+
+-- none is passed yet
+pub passed-none : (plan d : ℕ) (ks : List (List ℤ)) (n k : ℕ) (z p o : List ℕ) → Passed plan d ks n k z p o z p o 0
+passed-none plan d ks n k z p o = record {
+  size = refl;
+  kept = λ i l. refl;
+  table-size = refl;
+  table = λ i l. refl;
+  owner-size = refl;
+  low = omega arith;
+  none = λ y f a l. omega arith;
+}
+
+-- with equal lists
+pub passed-same : {plan d n k v : ℕ} {ks : List (List ℤ)} {z₀ p₀ o₀ z p o z′ p′ o′ : List ℕ} → z′ ≡ z → p′ ≡ p → o′ ≡ o → Passed plan d ks n k z₀ p₀ o₀ z p o v → Passed plan d ks n k z₀ p₀ o₀ z′ p′ o′ v
+passed-same {plan = plan} {d = d} {n = n} {k = k} {v = v} {ks = ks} {z₀ = z₀} {p₀ = p₀} {o₀ = o₀} {z = z} {p = p} {o = o} {z′ = z′} {p′ = p′} ez ep eo passed =
+    subst (λ (y : List ℕ). Passed plan d ks n k z₀ p₀ o₀ z′ p′ y v) (sym eo)
+    (subst (λ (y : List ℕ). Passed plan d ks n k z₀ p₀ o₀ z′ y o v) (sym ep)
+    (subst (λ (y : List ℕ). Passed plan d ks n k z₀ p₀ o₀ y p o v) (sym ez) passed))
+
+-- the stage is what it was at entry
+pub stage-passed : {plan d top n k v : ℕ} {ks : List (List ℤ)} {runs : List ℤ} {sizes z₀ p₀ o₀ z p o : List ℕ} → Stage plan d top runs sizes n k z₀ p₀ o₀ → Passed plan d ks n k z₀ p₀ o₀ z p o v → Stage plan d top runs sizes n k z p o
+stage-passed s passed = stage-kept _ _ _ _ _ _ _ _ _ _ _ _ _ (passed .size) (passed .kept) (passed .table-size) (passed .table) (passed .owner-size) s
+
+module _ {plan d n k v : ℕ} {ks : List (List ℤ)} {z₀ p₀ o₀ z p o : List ℕ} (passed : Passed plan d ks n k z₀ p₀ o₀ z p o v) (less : v < n) (within : k < length z₀) {z′ : List ℕ} (stored : z′ ≡ set z k v) where
+  -- v is set: the components before k stay
+  set-below : (i : ℕ) → i < k → getD z′ i 0 ≡ getD z₀ i 0
+  set-below i l = ap (λ (x : List ℕ). getD x i 0) stored ∙ getD-set-other z k i v 0 (omega arith) ∙ passed .kept i l
+
+  -- v stands at k
+  set-here : getD z′ k 0 ≡ v
+  set-here = ap (λ (x : List ℕ). getD x k 0) stored ∙ getD-set-same z k v 0 (omega (arith, passed .size))
+
+  -- the length stays
+  set-size : length z′ ≡ length z₀
+  set-size = ap length stored ∙ length-set z k v ∙ passed .size
+
+  -- a vector that begins as at entry and has v at k begins as what is stored
+  begins : (y : List ℕ) → Agree k y z₀ → getD y k 0 ≡ v → Agree (k + 1) y z′
+  begins y a e = agree-more k y z′ (λ i l. a i l ∙ sym (set-below i l)) (e ∙ sym set-here)
+
+  -- v is passed: x and the tables p″ and o″ are what the call left
+  pub passed-more : (p′ o′ x p″ o″ : List ℕ) → length p′ ≡ length p → KeptBelow k p p′ → length o′ ≡ length o → length x ≡ length z′ → Agree (k + 1) x z′ → length p″ ≡ length p′ → KeptBelow (k + 1) p′ p″ → length o″ ≡ length o′ → NoFirstFrom plan d ks n (k + 1) z′ → Passed plan d ks n k z₀ p₀ o₀ x p″ o″ (v + 1)
+  unfolding NoFirstFrom
+  passed-more p′ o′ x p″ o″ lp′ kept′ lo′ lx a lp″ kept″ lo″ none = record {
+    size = lx ∙ set-size;
+    kept = λ i l. a i (omega arith) ∙ set-below i l;
+    table-size = lp″ ∙ lp′ ∙ passed .table-size;
+    table = λ i l. kept″ i (omega arith) ∙ kept′ i l ∙ passed .table i l;
+    owner-size = lo″ ∙ lo′ ∙ passed .owner-size;
+    low = omega arith;
+    none = λ y f b l. below-more (λ j. getD y k 0 ≡ j → ⊥) v (λ j m e. passed .none y f b (omega arith)) (λ e. none y f (begins y b e)) (getD y k 0) l refl;
+  }
+
+  -- v is passed with no call
+  pub passed-skip : (p′ o′ : List ℕ) → length p′ ≡ length p → KeptBelow k p p′ → length o′ ≡ length o → NoFirstFrom plan d ks n (k + 1) z′ → Passed plan d ks n k z₀ p₀ o₀ z′ p′ o′ (v + 1)
+  passed-skip p′ o′ lp′ kept′ lo′ none = passed-more p′ o′ z′ p′ o′ lp′ kept′ lo′ refl (λ i l. refl) refl (λ i l. refl) refl none
+
+  -- the call found one
+  pub found : (x : List ℕ) → Completed plan d ks n (k + 1) z′ x true → Completed plan d ks n k z₀ x true
+  found x done = record {
+    kept = λ i l. done .kept i (omega arith) ∙ set-below i l;
+    ranged = done .ranged;
+    admissible = done .admissible;
+    least = λ e y f a b.
+        let x-here : getD x k 0 ≡ v = done .kept k (omega arith) ∙ set-here in
+        let x-below : Agree k y x = λ i l. a i l ∙ sym (done .kept i (omega arith) ∙ set-below i l) in
+        ⊎-elim
+        (λ low. passed .none y f a low)
+        (⊎-elim
+        (λ same. done .least e y f (begins y a same) b)
+        (λ high. not-after k y x x-below (omega arith) b))
+        (compared (getD y k 0) v);
+    none = true-false;
+  }
+
+-- every value was tried
+pub ended : {plan d n k v : ℕ} {ks : List (List ℤ)} {z₀ p₀ o₀ z p o : List ℕ} → Passed plan d ks n k z₀ p₀ o₀ z p o v → n ≤ v → k < d → Completed plan d ks n k z₀ z false
+unfolding NoFirstFrom
+ended {k = k} passed done within = record {
+  kept = passed .kept;
+  ranged = false-true;
+  admissible = false-true;
+  least = false-true;
+  none = λ _ y f a. passed .none y f a (omega (arith, f .ranged .below k within));
+}
+
+-- ---- all components are fixed
+-- every row ends by axis d, so the rule holds of the whole list
+pub whole : {plan d top n k : ℕ} {runs : List ℤ} {sizes z p o : List ℕ} → Stage plan d top runs sizes n k z p o → Fine plan d runs sizes n k z → k ≡ d → Completed plan d (searched d runs sizes) n k z z true
+whole {plan = plan} {d = d} {n = n} {k = k} {runs = runs} {sizes = sizes} {z = z} s good e = record {
+  kept = λ i l. refl;
+  ranged = λ _. record { size = s .size; below = λ i l. s .below i (omega arith) };
+  admissible = λ _.
+      subst (λ (ks : List (List ℤ)). Admissible ks n (map pos z) plan)
+      (ap (λ (j : ℕ). ending j (searched d runs sizes)) e ∙ ending-all d (searched d runs sizes) (s .levels .long))
+      (subst (λ (y : List ℕ). Admissible (ending k (searched d runs sizes)) n (map pos y) plan) (take-all k z (omega (arith, s .size))) good);
+  least = λ _ y f a b.
+      before-irrefl z
+      (subst (λ (w : List ℕ). Before w z)
+      (agree-all y z (f .ranged .size ∙ sym (s .size)) (λ i l. a i (omega (arith, s .size)))) b);
+  none = true-false;
+}
+
+-- ---- rows that are 0 from axis j on: only the first j components of z matter
+-- 0 from the start on: nothing is left of the sum
+dot-nothing : (h z : List ℤ) → ZeroFrom 0 h → dot h z ≡ pos 0
+dot-nothing [] z f = refl
+dot-nothing (x ∷ h) [] f = refl
+dot-nothing (x ∷ h) (y ∷ z) f =
+    ap (λ (a : ℤ). a *ℤ y +ℤ dot h z) (f 0 (omega arith))
+    ∙ ap (λ (a : ℤ). a +ℤ dot h z) (zero-*ℤ y)
+    ∙ +ℤ-idl (dot h z)
+    ∙ dot-nothing h z (λ i l. f (suc i) (omega arith))
+
+-- what z has from axis j on does not count
+dot-take : (j : ℕ) (h : List ℤ) (z : List ℕ) → ZeroFrom j h → dot h (map pos (take j z)) ≡ dot h (map pos z)
+dot-take zero h z f = dot-nothing h [] f ∙ sym (dot-nothing h (map pos z) f)
+dot-take (suc j) h [] f = refl
+dot-take (suc j) [] (a ∷ z) f = refl
+dot-take (suc j) (x ∷ h) (a ∷ z) f = ap (λ (k : ℤ). x *ℤ pos a +ℤ k) (dot-take j h z (λ i l. f (suc i) (omega arith)))
+
+-- so the rule holds with all of z where it holds with these
+pub fine-prefix : (plan : ℕ) (ks : List (List ℤ)) (n j : ℕ) (z : List ℕ) → ((k : List ℤ) → List·Memᴰ k ks → ZeroFrom j k) → Admissible ks n (map pos (take j z)) plan ↔ Admissible ks n (map pos z) plan
+fine-prefix plan ks n j z f =
+    same-residues plan ks n (map pos (take j z)) (map pos z)
+    (apart-rows (λ s. residueAt n (map pos (take j z)) s ≡ residueAt n (map pos z) s) plan ks
+    (λ k s m i. ap (residue n) (dot-take j s z (mirror-zero j k s (f k m) i)))
+    refl)
+
+-- ---- a component is tried
+-- no first vector begins so where the rule fails on the rows that end there
+pub fine-fails : {plan d top n k : ℕ} {runs : List ℤ} {sizes z p o : List ℕ} → Stage plan d top runs sizes n k z p o → (Fine plan d runs sizes n k z → ⊥) → NoFirstFrom plan d (searched d runs sizes) n k z
+unfolding NoFirstFrom
+fine-fails {plan = plan} {d = d} {n = n} {k = k} {runs = runs} {sizes = sizes} {z = z} s fails y f a =
+    fails
+    (subst (λ (x : List ℕ). Admissible (ending k ks) n (map pos x) plan)
+    (agree-take k y z (omega (arith, f .ranged .size, s .within)) (omega (arith, s .size, s .within)) a)
+    (fine-prefix plan (ending k ks) n k y (λ r m. zero-from k r (ending-out k ks r m .1)) .1
+    (part plan ks (ending k ks) n (map pos y) (λ r m. ending-out k ks r m .0) (f .admissible))))
+  where
+    ks : List (List ℤ)
+    ks = searched d runs sizes
+
+-- nor where the first component neither is 0 nor divides n
+pub lead-fails : (plan d : ℕ) (ks : List (List ℤ)) (n k v : ℕ) (z : List ℕ) → 0 < n → 1 ≤ d → k ≡ 0 → getD z k 0 ≡ v → (eqb v 0 || eqb (n % v) 0) ≡ false → NoFirstFrom plan d ks n (k + 1) z
+unfolding NoFirstFrom
+lead-fails plan d ks n k v z l h first is fails y f a =
+    ⊎-elim
+    (λ e. eqb-false v 0 (either-false (eqb v 0) (eqb (n % v) 0) fails .0) (sym here ∙ e))
+    (λ e. eqb-false (n % v) 0 (either-false (eqb v 0) (eqb (n % v) 0) fails .1) (ap (λ (x : ℕ). n % x) (sym here) ∙ e))
+    (first-component plan d ks n y l h f)
+  where
+    here : getD y 0 0 ≡ v
+    here = ap (λ (j : ℕ). getD y j 0) (sym first) ∙ a k (omega arith) ∙ is
+
+-- the next stage: the component is in range, and the products of its axis are set
+pub stage-more : {plan d top n k v : ℕ} {runs : List ℤ} {sizes z p o p′ : List ℕ} → Stage plan d top runs sizes n k z p o → k < d → v < n → AxisSet n v k top p p′ → Stage plan d top runs sizes n (k + 1) (set z k v) p′ o
+stage-more {plan = plan} {d = d} {top = top} {n = n} {k = k} {v = v} {z = z} {p = p} {p′ = p′} s within less set-anew = record {
+  levels = s .levels;
+  modulus = s .modulus;
+  within = omega arith;
+  size = length-set z k v ∙ s .size;
+  below = below-more (λ j. getD (set z k v) j 0 < n) k (λ j l. omega (arith, getD-set-other z k j v 0 (omega arith), s .below j l)) (omega (arith, here));
+  table-size = set-anew .size ∙ s .table-size;
+  entries =
+      rw (add-one k)
+      (set-products n top k (set z k v) p p′ (s .levels .covers .narrow) (omega (arith, length-set z k v, s .size))
+      (subst (λ (y : List ℕ). Products n y top p) (sym (take-set-le k z k v (omega arith))) (s .entries))
+      (subst (λ (x : ℕ). AxisSet n x k top p p′) (sym here) set-anew));
+  owner-room = s .owner-room;
+}
+  where
+    here : getD (set z k v) k 0 ≡ v
+    here = getD-set-same z k v 0 (omega (arith, s .size))
+
+-- ---- the rule on a level
+module _ {plan d top n k : ℕ} {runs : List ℤ} {sizes z p o : List ℕ} (s : Stage plan d top runs sizes n k z p o) (xs : List ℤ) (is : xs ≡ levelRun runs sizes k) where
+  -- its rows are whole, few, different and 0 from there on
+  ready : LevelReady plan d top k xs
+  ready = subst (LevelReady plan d top k) (sym is) (level-ready plan d top k runs sizes (s .levels) (s .within))
+
+  -- the components that are fixed
+  fixed : length (take k z) ≡ k
+  fixed = length-take-le k z (omega (arith, s .size, s .within))
+
+  -- what the rule asks
+  pub stage-ready : Ready d xs n (take k z) p
+  stage-ready = record {
+    modulus = s .modulus;
+    some-axes = s .levels .some-axes;
+    few-axes = s .levels .few-axes;
+    whole = ready .whole;
+    few-rows = ready .few-rows;
+    different = ready .different;
+    short = omega (arith, fixed, s .within);
+    ended = λ r m. subst (λ (j : ℕ). ZeroFrom j r) (sym fixed) (ready .ended r m);
+    prepared = record { top = top; covers = ready .covers; products = s .entries };
+  }
+
+  -- and under plans 2 to 4 no negative component
+  pub stage-unsigned : 2 ≤ plan → (r : List ℤ) → List·Memᴰ r (indexList d xs) → Nonnegative r
+  stage-unsigned = ready .unsigned
+
+  -- what it decides: its rows are those that end there
+  pub stage-decides : (b : Bool) → Decides b (Admissible (indexList d xs) n (map pos (take k z)) plan) → Decides b (Fine plan d runs sizes n k z)
+  stage-decides b =
+      subst (λ (ks : List (List ℤ)). Decides b (Admissible ks n (map pos (take k z)) plan))
+      (ap (indexList d) is ∙ s .levels .level k (s .within) .rows)
+
+-- ---- the first vector at n
+-- nothing is fixed yet
+pub stage-none : {plan d top : ℕ} {runs : List ℤ} {sizes : List ℕ} → Levels plan d top runs sizes → (n : ℕ) (z p o : List ℕ) → ValidModulus n → length z ≡ d → length p ≡ 3072 → n ≤ length o → Stage plan d top runs sizes n 0 z p o
+stage-none {top = top} l n z p o v e lp lo = record {
+  levels = l;
+  modulus = v;
+  within = omega arith;
+  size = e;
+  below = λ j h. absurd (omega arith);
+  table-size = lp;
+  entries = products-none n top z p lp;
+  owner-room = lo;
+}
+
+-- there are as many rows as the last level has room for
+searched-length : {plan d top : ℕ} {runs : List ℤ} {sizes : List ℕ} → Levels plan d top runs sizes → length (searched d runs sizes) ≡ getD sizes d 0 / d
+searched-length {d = d} {runs = runs} {sizes = sizes} l =
+    rows-length d (rowCount d (levelRun runs sizes d)) (levelRun runs sizes d)
+    ∙ ap (λ (m : ℕ). m / d) (length-take-le (getD sizes d 0) (drop (d * 3072) runs) (omega (arith, length-drop (d * 3072) runs, l .room d (omega arith))))
+
+-- fewer numbers than rows
+pub few-numbers : {plan d top : ℕ} {runs : List ℤ} {sizes : List ℕ} → Levels plan d top runs sizes → (n : ℕ) (x : List ℕ) → 0 < plan → 0 < n → n < getD sizes d 0 / d → Decided plan d (searched d runs sizes) n x false
+few-numbers {plan = plan} {d = d} {runs = runs} {sizes = sizes} l n x h i less = record {
+  found = false-true;
+  none = λ _. few-hopeless plan d (searched d runs sizes) n h (l .plans) (l .different) i (omega (arith, searched-length l));
+}
+
+-- the rows that are 0 throughout fail
+pub nothing-fails : {plan d top n : ℕ} {runs : List ℤ} {sizes z p o : List ℕ} → Stage plan d top runs sizes n 0 z p o → (x : List ℕ) → (Fine plan d runs sizes n 0 z → ⊥) → Decided plan d (searched d runs sizes) n x false
+unfolding NoFirstFrom
+nothing-fails {plan = plan} {d = d} {n = n} {runs = runs} {sizes = sizes} s x fails = record {
+  found = false-true;
+  none = λ _. hopeless plan d (searched d runs sizes) n (s .modulus .low) .0 (λ y f. fine-fails s fails y f (λ i h. absurd (omega arith)));
+}
+
+-- with nothing fixed, what was completed is the first of all
+pub decided : (plan d : ℕ) (ks : List (List ℤ)) (n : ℕ) (z x : List ℕ) (r : Bool) → 0 < n → Completed plan d ks n 0 z x r → Decided plan d ks n x r
+unfolding NoFirstFrom
+decided plan d ks n z x r l done = record {
+  found = λ e. is-first plan d ks n x (done .ranged e) (done .admissible e) (λ y f b. done .least e y f (λ i h. absurd (omega arith)) b);
+  none = λ e. hopeless plan d ks n l .0 (λ y f. done .none e y f (λ i h. absurd (omega arith)));
+}
+
+-- ---- the moduli from low on: those below n fail
+pub record Ascending (plan d : ℕ) (ks : List (List ℤ)) (low n : ℕ) (z₀ p₀ o₀ z p o : List ℕ) : Type 0 where
+  pub size : length z ≡ length z₀
+  pub table-size : length p ≡ length p₀
+  pub owner-size : length o ≡ length o₀
+  pub from-low : low ≤ n
+  pub fail : (m : ℕ) → low ≤ m → m < n → Hopeless plan d ks m
+
+-- low is the next
+pub ascend-none : (plan d : ℕ) (ks : List (List ℤ)) (low : ℕ) (z p o : List ℕ) → Ascending plan d ks low low z p o z p o
+ascend-none plan d ks low z p o = record { size = refl; table-size = refl; owner-size = refl; from-low = omega arith; fail = λ m l h. absurd (omega arith) }
+
+-- n fails too
+pub ascend-more : {plan d low n : ℕ} {ks : List (List ℤ)} {z₀ p₀ o₀ z p o : List ℕ} → Ascending plan d ks low n z₀ p₀ o₀ z p o → (z′ p′ o′ : List ℕ) → length z′ ≡ length z → length p′ ≡ length p → length o′ ≡ length o → Hopeless plan d ks n → Ascending plan d ks low (n + 1) z₀ p₀ o₀ z′ p′ o′
+ascend-more {plan = plan} {d = d} {low = low} {n = n} {ks = ks} s z′ p′ o′ lz lp lo fails = record {
+  size = lz ∙ s .size;
+  table-size = lp ∙ s .table-size;
+  owner-size = lo ∙ s .owner-size;
+  from-low = omega (arith, s .from-low);
+  fail = λ m l h. below-more (λ j. low ≤ j → Hopeless plan d ks j) n (λ j h l′. s .fail j l′ h) (λ l′. fails) m h l;
+}
+
+-- n does not fail
+pub ascended : {plan d low n : ℕ} {ks : List (List ℤ)} {z₀ p₀ o₀ z p o : List ℕ} → Ascending plan d ks low n z₀ p₀ o₀ z p o → (high : ℕ) → 1 ≤ low → n ≤ high → (x : List ℕ) → First plan d ks n x → Ascended plan d ks low high x n
+ascended s high l h x f = record {
+  found = λ _. f;
+  from-low = λ _. s .from-low;
+  to-high = h;
+  smaller-fail = λ _. s .fail;
+  none = λ e. absurd (omega (arith, s .from-low));
+}
+
+-- all up to high fail
+pub all-failed : {plan d low n : ℕ} {ks : List (List ℤ)} {z₀ p₀ o₀ z p o : List ℕ} → Ascending plan d ks low n z₀ p₀ o₀ z p o → (high : ℕ) → high < n → (x : List ℕ) → Ascended plan d ks low high x 0
+all-failed s high h x = record {
+  found = λ e. absurd (e refl);
+  from-low = λ e. absurd (e refl);
+  to-high = omega arith;
+  smaller-fail = λ e. absurd (e refl);
+  none = λ _ m l l′. s .fail m l (omega arith);
+}

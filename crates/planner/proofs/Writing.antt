@@ -1,0 +1,31 @@
+-- Writing a list into lent places, one element a turn.
+use mathlib.Core.Path.{_≡_, refl, sym, _∙_, ap}
+use mathlib.Core.List.{List, [], _∷_, _++_, append-assoc, append-nil}
+use Prim.Native.Nat.{ℕ, suc, _+_, _≤_, _<_}
+use native.Mathlib.Nat.{add-suc, add-zero}
+use native.Mathlib.Numerals.{add-one}
+use native.Mathlib.Omega.{arith}
+use lib.ListN.{length, getD, take, set}
+use lib.Seq.{take-suc, take-suc-set, take-all}
+
+module _ {A : Type 0} where
+  -- nothing is written yet
+  pub write-none : (out xs : List A) (at : ℕ) → take (at + 0) out ≡ take at out ++ take 0 xs
+  write-none out xs at = ap (λ (k : ℕ). take k out) (add-zero at) ∙ sym (append-nil (take at out))
+
+  -- behind the first `at` places stand the first j elements of xs; the next one is written
+  pub write-more : (old out xs : List A) (at j : ℕ) (v d : A) → at + j < length out → j < length xs → v ≡ getD xs j d → take (at + j) out ≡ take at old ++ take j xs → take (at + (j + 1)) (set out (at + j) v) ≡ take at old ++ take (j + 1) xs
+  write-more old out xs at j v d l m e so-far =
+      ap (λ (k : ℕ). take k (set out (at + j) v)) (ap (λ (k : ℕ). at + k) (add-one j) ∙ add-suc at j)
+      ∙ take-suc-set out (at + j) v l
+      ∙ ap (λ (t : List A). t ++ (v ∷ [])) so-far
+      ∙ append-assoc (take at old) (take j xs) (v ∷ [])
+      ∙ ap (λ (t : List A). take at old ++ t) (ap (λ (w : A). take j xs ++ (w ∷ [])) e ∙ sym (take-suc xs j d m) ∙ ap (λ (k : ℕ). take k xs) (sym (add-one j)))
+
+  -- all of xs is written
+  pub write-all : (old out xs : List A) (at j n : ℕ) → length xs ≡ n → n ≤ j → take (at + j) out ≡ take at old ++ take j xs → j ≤ n → take (at + n) out ≡ take at old ++ xs
+  write-all old out xs at j n size done so-far within =
+      ap (λ (k : ℕ). take (at + k) out) same ∙ so-far ∙ ap (λ (t : List A). take at old ++ t) (take-all j xs (omega arith))
+    where
+      same : n ≡ j
+      same = omega arith

@@ -1,0 +1,54 @@
+-- `entry`: the residue of i × x by one division, and what stands for it.
+use mathlib.Core.Path.{_≡_, sym, ap, _∙_}
+use Prim.Native.Nat.{ℕ, _*_, _%_, _<_, _≤_}
+use native.Mathlib.Nat.{mod-lt, mul-le-mul}
+use native.Mathlib.Omega.{arith}
+use Rattle.rank1.specs.Points.{coordinate}
+use borrow.Author.Needs.{needs}
+use Rattle.planner.proofs.points.entry.Statement.{statement}
+use Rattle.planner.proofs.points.entry.Tie as tie
+
+wide-requires : tie.Need-wide-requires
+wide-requires c κs = search needs
+
+wide-requires-2 : tie.Need-wide-requires-2
+wide-requires-2 c κs = search needs
+
+mul-r : tie.Need-mul-r
+mul-r c =
+    omega (arith, mul-le-mul {n₁ = c .before .wide .result} {m₁ = c .wide2 .result} {n₂ = 8192} {m₂ = 8192} (omega arith) (omega arith))
+
+wide-requires-3 : tie.Need-wide-requires-3
+wide-requires-3 c κs = search needs
+
+rem-r : tie.Need-rem-r
+rem-r c = search needs
+
+-- the remainder is below n
+remainder : (c : tie.After-wide3) → c .before .before .wide .result * c .before .wide2 .result % c .wide3 .result < c .wide3 .result
+remainder c = mod-lt (c .before .before .wide .result * c .before .wide2 .result) (omega arith)
+
+cast-coordinate-of : tie.Need-cast-coordinate-of
+cast-coordinate-of c =
+    omega (arith, remainder c)
+
+coordinate-of-requires : tie.Need-coordinate-of-requires
+coordinate-of-requires c κs =
+    (omega (arith, remainder c), c .before .before .before .pre .2)
+
+returns : tie.Need-returns
+returns c =
+    c .coordinate-of .ensures ∙ ap (coordinate (c .before .before .before .before .args .plan) (c .before .before .before .before .args .n)) (cc)
+
+pub entry-spec : {M : Type 1} → statement M
+entry-spec =
+    tie.close
+    (tie.spec
+    wide-requires
+    wide-requires-2
+    mul-r
+    wide-requires-3
+    rem-r
+    cast-coordinate-of
+    coordinate-of-requires
+    returns)

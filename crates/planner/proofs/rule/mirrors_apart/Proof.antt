@@ -1,0 +1,220 @@
+-- `planner::rule::mirrors_apart` meets its contract: no mirror passed, from number 1 on, has the residue of a row that the plan keeps
+-- apart from its own.
+use mathlib.Core.Path.{_≡_, sym, ap, _∙_}
+use mathlib.Core.Bool.{true}
+use mathlib.Core.List.{List, map}
+use Prim.Native.Nat.{ℕ, _-_, _≤_, _<_}
+use native.Mathlib.Omega.{arith}
+use borrow.Author.Count.{below-more}
+use lib.IntN.{ℤ, pos}
+use lib.ListN.{length, getD}
+use Rattle.rank1.specs.Residue.{residueAt}
+use Rattle.rank1.specs.Index.{mirrors, indexList}
+use Rattle.planner.specs.Inner.{clash}
+use Rattle.planner.proofs.OwnerLaws.{Free}
+use Rattle.planner.proofs.MirrorResidues.{row-ready}
+use Rattle.planner.proofs.RuleIndex.{row, rowResidue, mirror, MirrorsFree, row-room, row-number, mirror-below, mirror-passes, mirror-fails, mirrors-hold, mirrors-break}
+use borrow.Author.Needs.{needs}
+use Rattle.planner.proofs.rule.mirrors_apart.Statement.{statement}
+use Rattle.planner.proofs.rule.mirrors_apart.Tie as tie
+
+abbrev Inv-loop : tie.InvT-loop
+Inv-loop plan d rows n z products owners residues apart₀ i t₀ i-end t-end apart t =
+    (1 ≤ t) × (t ≤ t-end) × (apart ≡ true) × MirrorsFree (indexList d rows) n (map pos z) plan i t
+
+abbrev μ-loop : tie.MeasureT-loop
+μ-loop plan d rows n z products owners residues apart₀ i t₀ i-end t-end apart t = t-end - t
+
+abbrev Inv-rows : tie.InvT-rows
+Inv-rows plan d rows n z products owners residues₀ apart₀ i₀ i-end residues apart i =
+    (i ≤ i-end)
+    × (length residues ≡ 64)
+    × (apart ≡ true)
+    × ((j : ℕ) → j < i → MirrorsFree (indexList d rows) n (map pos z) plan j (length (mirrors (row (indexList d rows) n (map pos z) j))))
+
+abbrev μ-rows : tie.MeasureT-rows
+μ-rows plan d rows n z products owners residues₀ apart₀ i₀ i-end residues apart i = i-end - i
+
+-- the function's entry from the outer loop's head, and that from the inner one's
+abbrev start : tie.At-rows Inv-loop μ-loop Inv-rows μ-rows → tie.Start Inv-loop μ-loop Inv-rows μ-rows
+start c = c .before .before .before .before
+
+abbrev turn : tie.At-loop Inv-loop μ-loop Inv-rows μ-rows → tie.At-rows Inv-loop μ-loop Inv-rows μ-rows
+turn c = c .before .before .before .before .before .before .before
+
+-- the residues of the row's mirrors
+abbrev out : tie.At-loop Inv-loop μ-loop Inv-rows μ-rows → List ℕ
+out c = c .before .before .before .mirror-residues .last .1 .1 .1 .1 .0
+
+-- t is the number of a mirror
+inside : (c : tie.In-loop Inv-loop μ-loop Inv-rows μ-rows) → c .before .loop .t < length (mirrors (c .before .before .before .before .before .before .row-at .result .now))
+inside c = omega (arith, c .loop-test .taken, c .before .before .mirror-count .ensures .0)
+
+-- its residue is below n
+below : (c : tie.In-loop Inv-loop μ-loop Inv-rows μ-rows) → getD (out (c .before)) (c .before .loop .t) 0 < start (turn (c .before)) .args .n
+below c =
+    let h = c .before in
+    let m = h .before .before .before in
+    let r = turn h in
+    let s = start r in
+    let a = s .args in
+    let k = m .before .before .row-at in
+    mirror-below (a .d) (a .rows .now) (a .n) (a .z .now) (a .products .now) (r .rows .i) (s .pre .0) (m .before .before .before .rows-test .taken) (k .result .now) (out h) (h .loop .t)
+    (k .ensures .0) (m .mirror-residues .ensures) (inside c)
+
+-- the call says whether the owner of this residue forbids it
+forbids : (c : tie.After-clashes Inv-loop μ-loop Inv-rows μ-rows) → let h = c .before .before .before .before .before in c .clashes .result ≡ clash (start (turn h) .args .plan) (turn h .rows .i) (getD (start (turn h) .args .owners .now) (getD (out h) (h .loop .t) 0) 0)
+forbids c =
+    let h = c .before .before .before .before .before in
+    let a = start (turn h) .args in
+    c .clashes .ensures
+    ∙ ap (clash (a .plan) (turn h .rows .i)) (c .before .wide2 .ensures ∙ ap (λ (x : ℕ). getD (a .owners .now) x 0) (c .before .before .before .wide .ensures))
+
+div-i-end : tie.Need-div-i-end Inv-loop μ-loop Inv-rows μ-rows
+div-i-end c = search needs
+
+rows-holds : tie.Need-rows-holds Inv-loop μ-loop Inv-rows μ-rows
+rows-holds c = search needs
+
+row-at-requires : tie.Need-row-at-requires Inv-loop μ-loop Inv-rows μ-rows
+row-at-requires c κs =
+    let s = start (c .before) in
+    let a = s .args in
+    row-room (a .d) (a .rows .now) (a .n) (a .z .now) (a .products .now) (c .before .rows .i) (s .pre .0) (c .rows-test .taken)
+
+slice-aggregate-mirror-residues :
+    tie.Need-slice-aggregate-mirror-residues Inv-loop μ-loop Inv-rows μ-rows
+slice-aggregate-mirror-residues c = search needs
+
+mirror-residues-requires : tie.Need-mirror-residues-requires Inv-loop μ-loop Inv-rows μ-rows
+mirror-residues-requires c κs =
+    let r = c .before .before .before in
+    let s = start r in
+    let a = s .args in
+    (rw (c .before .row-at .ensures .0) (row-ready (a .d) (a .rows .now) (a .n) (a .z .now) (a .products .now) (r .rows .i) (s .pre .0) (c .before .before .rows-test .taken)), r .rows .inv .1)
+
+mirror-count-requires : tie.Need-mirror-count-requires Inv-loop μ-loop Inv-rows μ-rows
+mirror-count-requires c κs = search needs
+
+loop-holds : tie.Need-loop-holds Inv-loop μ-loop Inv-rows μ-rows
+loop-holds c = search needs
+
+mul-wide : tie.Need-mul-wide Inv-loop μ-loop Inv-rows μ-rows
+mul-wide c = search needs
+
+array-read-wide : tie.Need-array-read-wide Inv-loop μ-loop Inv-rows μ-rows
+array-read-wide c = search needs
+
+wide-requires : tie.Need-wide-requires Inv-loop μ-loop Inv-rows μ-rows
+wide-requires c κs = search needs
+
+mul-wide-2 : tie.Need-mul-wide-2 Inv-loop μ-loop Inv-rows μ-rows
+mul-wide-2 c = omega (arith, c .wide .ensures, below (c .before), start (turn (c .before .before)) .pre .0 .modulus .high)
+
+shared-slice-read-wide : tie.Need-shared-slice-read-wide Inv-loop μ-loop Inv-rows μ-rows
+shared-slice-read-wide c = omega (arith, c .before .wide .ensures, below (c .before .before), start (turn (c .before .before .before)) .pre .1 .0)
+
+wide-requires-2 : tie.Need-wide-requires-2 Inv-loop μ-loop Inv-rows μ-rows
+wide-requires-2 c κs = search needs
+
+clashes-requires : tie.Need-clashes-requires Inv-loop μ-loop Inv-rows μ-rows
+clashes-requires c κs = search needs
+
+add-t : tie.Need-add-t Inv-loop μ-loop Inv-rows μ-rows
+add-t c = search needs
+
+loop-less : tie.Need-loop-less Inv-loop μ-loop Inv-rows μ-rows
+loop-less c = search needs
+
+loop-again : tie.Need-loop-again Inv-loop μ-loop Inv-rows μ-rows
+loop-again c =
+    let h = c .before .before .before .before .before .before in
+    let m = h .before .before .before in
+    let r = turn h in
+    let s = start r in
+    let a = s .args in
+    let k = m .before .before .row-at in
+    let ks = indexList (a .d) (a .rows .now) in (
+      omega arith,
+      omega (arith, c .before .before .before .before .before .loop-test .taken),
+      h .loop .inv .2,
+      below-more (λ (t : ℕ). 1 ≤ t → Free (rowResidue ks (a .n) (map pos (a .z .now))) (a .plan) (length ks) (r .rows .i) (residueAt (a .n) (map pos (a .z .now)) (mirror ks (a .n) (map pos (a .z .now)) (r .rows .i) t)))
+          (h .loop .t) (h .loop .inv .3)
+          (λ _. mirror-passes (a .d) (a .rows .now) (a .n) (a .z .now) (a .products .now) (r .rows .i) (s .pre .0) (m .before .before .before .rows-test .taken) (k .result .now) (out h) (h .loop .t)
+          (k .ensures .0) (m .mirror-residues .ensures) (inside (c .before .before .before .before .before)) (a .plan) (a .owners .now) (s .pre .1 .1 .1) (sym (forbids (c .before)) ∙ c .if1 .left)),
+    )
+
+add-i : tie.Need-add-i Inv-loop μ-loop Inv-rows μ-rows
+add-i c = search needs
+
+rows-less : tie.Need-rows-less Inv-loop μ-loop Inv-rows μ-rows
+rows-less c = search needs
+
+rows-again : tie.Need-rows-again Inv-loop μ-loop Inv-rows μ-rows
+rows-again c =
+    let h = c .before in
+    let m = h .before .before .before in
+    let r = turn h in
+    let s = start r in
+    let a = s .args in
+    let k = m .before .before .row-at in
+    let ks = indexList (a .d) (a .rows .now) in
+    let same = row-number (a .d) (a .rows .now) (a .n) (a .z .now) (a .products .now) (r .rows .i) (s .pre .0) (m .before .before .before .rows-test .taken) (k .result .now) (k .ensures .0) in (
+      omega arith,
+      omega (arith, m .mirror-residues .kept .1 .1 .1 .1 .0, r .rows .inv .1),
+      h .loop .inv .2,
+      below-more (λ (j : ℕ). MirrorsFree ks (a .n) (map pos (a .z .now)) (a .plan) j (length (mirrors (row ks (a .n) (map pos (a .z .now)) j)))) (r .rows .i) (r .rows .inv .3)
+          (λ t l. h .loop .inv .3 t (omega (arith, h .before .mirror-count .ensures .0, ap (λ (w : List ℤ). length (mirrors w)) same))),
+    )
+
+returns : tie.Need-returns Inv-loop μ-loop Inv-rows μ-rows
+returns c =
+    let r = c .before in
+    let s = start r in
+    let a = s .args in
+    rw (r .rows .inv .2)
+    (mirrors-hold (a .plan) (a .d) (a .rows .now) (a .n) (a .z .now) (a .products .now) (a .owners .now) (s .pre .0) (s .pre .1 .0 .0) (s .pre .1 .0 .1) (s .pre .1 .1 .0) (s .pre .1 .1 .1)
+    (λ i l. r .rows .inv .3 i (omega arith)))
+
+returns-2 : tie.Need-returns-2 Inv-loop μ-loop Inv-rows μ-rows
+returns-2 c =
+    let h = c .before .before .before .before .before .before in
+    let m = h .before .before .before in
+    let r = turn h in
+    let s = start r in
+    let a = s .args in
+    let k = m .before .before .row-at in
+    mirrors-break (a .plan) (a .d) (a .rows .now) (a .n) (a .z .now) (a .products .now) (a .owners .now) (s .pre .0) (s .pre .1 .0 .0) (s .pre .1 .0 .1) (s .pre .1 .1 .0) (s .pre .1 .1 .1)
+    (mirror-fails (a .d) (a .rows .now) (a .n) (a .z .now) (a .products .now) (r .rows .i) (s .pre .0) (m .before .before .before .rows-test .taken) (k .result .now) (out h) (h .loop .t)
+    (k .ensures .0) (m .mirror-residues .ensures) (inside (c .before .before .before .before .before)) (a .plan) (a .owners .now) (s .pre .1 .1 .1) (sym (forbids (c .before)) ∙ c .if1 .taken) (h .loop .inv .0))
+
+pub mirrors-apart-spec : {M : Type 1} → statement M
+mirrors-apart-spec =
+    tie.close
+    (tie.spec
+    Inv-loop
+    μ-loop
+    Inv-rows
+    μ-rows
+    div-i-end
+    rows-holds
+    row-at-requires
+    slice-aggregate-mirror-residues
+    mirror-residues-requires
+    mirror-count-requires
+    loop-holds
+    mul-wide
+    array-read-wide
+    wide-requires
+    mul-wide-2
+    shared-slice-read-wide
+    wide-requires-2
+    clashes-requires
+    add-t
+    loop-less
+    loop-again
+    add-i
+    rows-less
+    rows-again
+    returns
+    returns-2)

@@ -1,0 +1,88 @@
+-- `planner::search::try_component` meets its contract. No first vector begins so where the first component neither is 0 nor
+-- divides n (lead-fails), or where the rule fails on the rows that end there (fine-fails).
+use mathlib.Core.Path.{refl, sym, _∙_}
+use native.Mathlib.Omega.{arith}
+use borrow.Author.Needs.{needs}
+use borrow.Author.Tests.{not-true}
+use lib.Seq.{getD-set-same}
+use Rattle.planner.proofs.SearchSteps.{false-true, stage-more, stage-owners, fine-fails, lead-fails}
+use Rattle.planner.proofs.search.try_component.Statement.{statement}
+use Rattle.planner.proofs.search.try_component.Tie as tie
+
+mul-z : tie.Need-mul-z
+mul-z c = search needs
+
+slice-write-z : tie.Need-slice-write-z
+slice-write-z c = search needs
+
+can-lead-requires : tie.Need-can-lead-requires
+can-lead-requires c κs = search needs
+
+same-length : tie.Need-same-length
+same-length c = search needs
+
+returns : tie.Need-returns
+returns c =
+    let start = c .before .before .before .before .before .before .before in
+    record {
+      stored = refl;
+      kept = λ i l. refl;
+      stage = false-true;
+      fine = false-true;
+      none = λ _.
+          lead-fails _ _ _ _ _ _ _ (start .pre .0 .modulus .low) (start .pre .0 .levels .some-axes) (c .before .before .if1 .taken)
+          (getD-set-same (start .args .z .now) (start .args .at) (start .args .v) 0 (omega (arith, start .pre)))
+          (sym (c .before .can-lead .ensures) ∙ not-true _ (c .if2 .taken));
+    }
+
+set-axis-requires : tie.Need-set-axis-requires
+set-axis-requires c κs = search needs
+
+add-rule-at : tie.Need-add-rule-at
+add-rule-at c = search needs
+
+rule-at-requires : tie.Need-rule-at-requires
+rule-at-requires c κs =
+    let call = c .before .before .before .before .before .set-axis in
+    let start = c .before .before .before .before .before .before .before .before .before .before .before .before in
+    stage-more (start .pre .0) (start .pre .1 .0) (start .pre .1 .1) (call .ensures)
+
+same-length-2 : tie.Need-same-length-2
+same-length-2 c = search needs
+
+same-length-3 : tie.Need-same-length-3
+same-length-3 c = search needs
+
+same-length-4 : tie.Need-same-length-4
+same-length-4 c = search needs
+
+returns-2 : tie.Need-returns-2
+returns-2 c =
+    let rule = c .before .before .rule-at in
+    let call = c .before .before .before .before .before .before .before .before .set-axis in
+    let start = c .before .before .before .before .before .before .before .before .before .before .before .before .before .before .before in
+    let stage = stage-more (start .pre .0) (start .pre .1 .0) (start .pre .1 .1) (call .ensures) in
+    record {
+      stored = refl;
+      kept = call .ensures .kept;
+      stage = λ _. stage-owners _ _ _ _ _ _ _ stage (rule .kept .1 .1 .1 .1 .1 .1 .1 .1 .1 .0);
+      fine = rule .ensures .yes;
+      none = λ e. fine-fails stage (rule .ensures .no e);
+    }
+
+pub try-component-spec : {M : Type 1} → statement M
+try-component-spec =
+    tie.close
+    (tie.spec
+    mul-z
+    slice-write-z
+    can-lead-requires
+    same-length
+    returns
+    set-axis-requires
+    add-rule-at
+    rule-at-requires
+    same-length-2
+    same-length-3
+    same-length-4
+    returns-2)

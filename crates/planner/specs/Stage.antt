@@ -1,0 +1,114 @@
+-- What the private functions of the search ask and give. Nothing here is in a public contract.
+use mathlib.Core.Path.{_≡_}
+use mathlib.Core.Bool.{Bool, true, false, cond}
+use mathlib.Core.List.{List, [], _∷_, map, List·Memᴰ}
+use Prim.Native.Nat.{ℕ, _+_, _*_, _<_, _≤_}
+use lib.IntN.{ℤ, pos}
+use lib.ListN.{length, getD, take, drop, set}
+use Rattle.rank1.specs.Tests.{every, sameNumber}
+use Rattle.rank1.specs.Index.{rowCount, indexList}
+use Rattle.rank1.specs.Rule.{Admissible}
+use Rattle.rank1.specs.Search.{Before, InRange, First, Hopeless}
+use Rattle.rank1.specs.Valid.{Distinct, Nonnegative, ValidModulus}
+use Rattle.planner.specs.Inner.{Products, Covered}
+
+-- ---- levels: for each axis j the rows that are 0 from j on, in 3072 places of their own
+-- every component from axis j on is 0
+abbrev pub zeroFrom : ℕ → List ℤ → Bool
+zeroFrom j k = every (sameNumber (pos 0)) (drop j k)
+
+-- the rows that are 0 from axis j on
+abbrev pub ending : ℕ → List (List ℤ) → List (List ℤ)
+ending j [] = []
+ending j (k ∷ ks) = cond (zeroFrom j k) (k ∷ ending j ks) (ending j ks)
+
+-- the run of level j, whose size is given
+abbrev pub levelRun : List ℤ → List ℕ → ℕ → List ℤ
+levelRun runs sizes j = take (getD sizes j 0) (drop (j * 3072) runs)
+
+-- the list that is searched is the last level
+abbrev pub searched : ℕ → List ℤ → List ℕ → List (List ℤ)
+searched d runs sizes = indexList d (levelRun runs sizes d)
+
+-- a run of rows that hold the list given
+pub record Level (d : ℕ) (ks : List (List ℤ)) (xs : List ℤ) : Type 0 where
+  pub rows : indexList d xs ≡ ks
+  pub whole : length xs ≡ rowCount d xs * d
+
+-- r numbers at the front of `new` are the rows of xs that are 0 from axis j on; no number is in `new` that was not there before
+-- or in xs
+pub record Kept (d j : ℕ) (xs old new : List ℤ) (r : ℕ) : Type 0 where
+  pub level : Level d (ending j (indexList d xs)) (take r new)
+  pub fits : r ≤ length xs
+  pub covers : (top : ℕ) → Covered top xs → Covered top old → Covered top new
+
+-- a valid list in levels, no component larger than top
+pub record Levels (plan d top : ℕ) (runs : List ℤ) (sizes : List ℕ) : Type 0 where
+  pub plans : plan ≤ 4
+  pub some-axes : 1 ≤ d
+  pub few-axes : d ≤ 6
+  pub few-rows : length (searched d runs sizes) ≤ 512
+  pub different : Distinct (searched d runs sizes)
+  pub unsigned : 2 ≤ plan → (k : List ℤ) → List·Memᴰ k (searched d runs sizes) → Nonnegative k
+  pub long : (k : List ℤ) → List·Memᴰ k (searched d runs sizes) → length k ≡ d
+  pub covers : Covered top runs
+  pub tall : length sizes ≡ 7
+  pub room : (j : ℕ) → j ≤ d → j * 3072 + getD sizes j 0 ≤ length runs
+  pub level : (j : ℕ) → j ≤ d → Level d (ending j (searched d runs sizes)) (levelRun runs sizes j)
+
+-- ---- prefixes
+-- y and z have the same components below k
+abbrev pub Agree : ℕ → List ℕ → List ℕ → Type 0
+Agree k y z = (i : ℕ) → i < k → getD y i 0 ≡ getD z i 0
+
+-- no first vector begins as z does below k
+unfoldable pub NoFirstFrom : ℕ → ℕ → List (List ℤ) → ℕ → ℕ → List ℕ → Type 0
+NoFirstFrom plan d ks n k z = (y : List ℕ) → First plan d ks n y → Agree k y z → ⊥
+
+-- the first at components of z are fixed and their products set
+pub record Stage (plan d top : ℕ) (runs : List ℤ) (sizes : List ℕ) (n at : ℕ) (z products owners : List ℕ) : Type 0 where
+  pub levels : Levels plan d top runs sizes
+  pub modulus : ValidModulus n
+  pub within : at ≤ d
+  pub size : length z ≡ d
+  pub below : (j : ℕ) → j < at → getD z j 0 < n
+  pub table-size : length products ≡ 3072
+  pub entries : Products n (take at z) top products
+  pub owner-room : n ≤ length owners
+
+-- the rule holds of the rows that are 0 from axis at on
+abbrev pub Fine : ℕ → ℕ → List ℤ → List ℕ → ℕ → ℕ → List ℕ → Type 0
+Fine plan d runs sizes n at z = Admissible (ending at (searched d runs sizes)) n (map pos (take at z)) plan
+
+-- the entries of the axes before at are as they were
+abbrev pub KeptBelow : ℕ → List ℕ → List ℕ → Type 0
+KeptBelow at old new = (i : ℕ) → i < at * 512 → getD new i 0 ≡ getD old i 0
+
+-- component at is set to v: with true the next stage is reached, with false no first vector begins so
+pub record Tried (plan d top : ℕ) (runs : List ℤ) (sizes : List ℕ) (n at v : ℕ) (z products z′ products′ owners′ : List ℕ) (r : Bool) : Type 0 where
+  pub stored : z′ ≡ set z at v
+  pub kept : KeptBelow at products products′
+  pub stage : r ≡ true → Stage plan d top runs sizes n (at + 1) z′ products′ owners′
+  pub fine : r ≡ true → Fine plan d runs sizes n (at + 1) z′
+  pub none : r ≡ false → NoFirstFrom plan d (searched d runs sizes) n (at + 1) z′
+
+-- what completing z from component k on gives: the new vector x, and whether it is one
+pub record Completed (plan d : ℕ) (ks : List (List ℤ)) (n k : ℕ) (z x : List ℕ) (r : Bool) : Type 0 where
+  pub kept : Agree k x z
+  pub ranged : r ≡ true → InRange n d x
+  pub admissible : r ≡ true → Admissible ks n (map pos x) plan
+  pub least : r ≡ true → (y : List ℕ) → First plan d ks n y → Agree k y z → Before y x → ⊥
+  pub none : r ≡ false → NoFirstFrom plan d ks n k z
+
+-- x is the first vector at n, or n fails with every vector
+pub record Decided (plan d : ℕ) (ks : List (List ℤ)) (n : ℕ) (x : List ℕ) (r : Bool) : Type 0 where
+  pub found : r ≡ true → First plan d ks n x
+  pub none : r ≡ false → Hopeless plan d ks n
+
+-- the moduli from low to high, upward: n is the first that does not fail and x its first vector; 0 where all fail
+pub record Ascended (plan d : ℕ) (ks : List (List ℤ)) (low high : ℕ) (x : List ℕ) (n : ℕ) : Type 0 where
+  pub found : (n ≡ 0 → ⊥) → First plan d ks n x
+  pub from-low : (n ≡ 0 → ⊥) → low ≤ n
+  pub to-high : n ≤ high
+  pub smaller-fail : (n ≡ 0 → ⊥) → (m : ℕ) → low ≤ m → m < n → Hopeless plan d ks m
+  pub none : n ≡ 0 → (m : ℕ) → low ≤ m → m ≤ high → Hopeless plan d ks m

@@ -1,0 +1,67 @@
+// The point list (document 01's cutting list) of a valid pair.
+
+ghost use mathlib.Core.Path.{_≡_};
+ghost use mathlib.Core.List.{_++_};
+ghost use Prim.Native.Nat.{ℕ, _+_, _*_, _%_, _≤_, _<_};
+ghost use lib.ListN.{length, getD, take};
+ghost use Rattle.rank1.specs.Points.{coordinate, pointLine, lineCount, pointList};
+ghost use Rattle.rank1.specs.Search.{InRange};
+ghost use Rattle.rank1.specs.Valid.{ValidModulus};
+
+fn wide(x: u16) -> u32
+    ensures { λ r. ⌜ r ≡ x ⌝ }
+{
+    x as u32
+}
+
+// What stands for a residue: itself for plans 0 and 1, its tent numerator for plans 2, 3 and 4.
+fn coordinate_of(plan: u8, n: u16, r: u16) -> u16
+    requires { ⌜ (r < n) × (n ≤ 8192) ⌝ }
+    ensures { λ c. ⌜ c ≡ coordinate plan n r ⌝ }
+{
+    if plan < 2 {
+        return r;
+    }
+    let up = 2 * r;
+    let down = 2 * n - 2 * r;
+    if up <= down { up } else { down }
+}
+
+// How many lines the list has.
+pub fn line_count(plan: u8, n: u16) -> usize
+    ensures { λ r. ⌜ r ≡ lineCount plan n ⌝ }
+{
+    n as usize
+}
+
+// One component of line i.
+fn entry(plan: u8, n: u16, i: u16, x: u16) -> u16
+    requires { ⌜ (i < n) × (x < n) × (n ≤ 8192) ⌝ }
+    ensures { λ r. ⌜ r ≡ coordinate plan n ((i * x) % n) ⌝ }
+{
+    let r = wide(i) * wide(x) % wide(n);
+    coordinate_of(plan, n, r as u16)
+}
+
+// Writes line i behind the first `at` numbers.
+fn write_line(plan: u8, n: u16, z: &[u16], i: u16, out: &mut [u16], at: usize)
+    requires { ⌜ (i < n) × ValidModulus n × (at + length (now z) ≤ length (now out)) ⌝ }
+    requires { ⌜ ((j : ℕ) → j < length (now z) → getD (now z) j 0 < n) ⌝ }
+    ensures { λ _. ⌜ take (at + length (now (z .entry))) (now (out .exit)) ≡ take at (now (out .entry)) ++ pointLine plan n (now (z .entry)) i ⌝ }
+{
+    for j in 0..z.len() {
+        out[at + j] = entry(plan, n, i, z[j]);
+    }
+}
+
+// The whole list, line 0 and up.
+pub fn write_points(plan: u8, d: usize, n: u16, z: &[u16], out: &mut [u16])
+    requires { ⌜ (d ≤ 6) × ValidModulus n × InRange n d (now z) × (length (now out) ≡ lineCount plan n * d) ⌝ }
+    ensures { λ _. ⌜ now (out .exit) ≡ pointList plan n (now (z .entry)) ⌝ }
+{
+    let mut at = 0;
+    for i in 0..n {
+        write_line(plan, n, z, i, out, at);
+        at += d;
+    }
+}

@@ -1,0 +1,261 @@
+// The searches: components are fixed from the first to the last by recursion; the number of unfixed ones falls at each call.
+// Before it goes deeper the search tests the plan's rule on the rows that are 0 from the next axis on: their residues hang on
+// the fixed components alone. What is known of a vector that the search passes over is that no First vector begins so.
+
+use crate::Plan;
+use crate::products::largest;
+use crate::products::row_at;
+use crate::products::set_axis;
+use crate::rule::rule_holds;
+ghost use mathlib.Core.Path.{_≡_};
+ghost use mathlib.Core.Bool.{true, false};
+ghost use mathlib.Core.List.{_++_};
+ghost use Prim.Native.Nat.{ℕ, _+_, _*_, _%_, _≤_, _<_};
+ghost use lib.IntN.{pos};
+ghost use lib.Dec.{eqb};
+ghost use mathlib.Core.Bool.{_||_};
+ghost use lib.ListN.{length, getD, take, drop};
+ghost use Rattle.rank1.specs.Index.{indexList, rowCount};
+ghost use Rattle.rank1.specs.Rule.{Admissible};
+ghost use Rattle.rank1.specs.Valid.{ValidList, ValidModulus};
+ghost use Rattle.planner.specs.Inner.{Decides, Covered};
+ghost use Rattle.planner.specs.Answer.{PlanBetween};
+ghost use Rattle.planner.specs.Stage.{zeroFrom, ending, searched, Level, Levels, Stage, Fine, KeptBelow, Tried, Completed, Decided, Ascended, Kept};
+
+// Whether a row is 0 from axis j on.
+fn ends_by(row: &[i16], j: usize) -> bool
+    requires { ⌜ j ≤ length (now row) ⌝ }
+    ensures { λ r. ⌜ r ≡ zeroFrom j (now (row .entry)) ⌝ }
+{
+    for i in j..row.len() {
+        if row[i] != 0 {
+            return false;
+        }
+    }
+    true
+}
+
+// Copies row i of a run behind the first `at` numbers of another.
+fn copy_row(rows: &[i16], i: usize, d: usize, out: &mut [i16], at: usize)
+    requires { ⌜ ((i + 1) * d ≤ length (now rows)) × (at + d ≤ length (now out)) ⌝ }
+    ensures { λ _. ⌜ now (out .exit) ≡ take at (now (out .entry)) ++ take d (drop (i * d) (now (rows .entry))) ++ drop (at + d) (now (out .entry)) ⌝ }
+{
+    let a = i * d;
+    for j in 0..d {
+        out[at + j] = rows[a + j];
+    }
+}
+
+// Writes the rows that are 0 from axis j on to the front of out, in their order, and returns how many numbers they are.
+fn keep_ending(d: usize, rows: &[i16], j: usize, out: &mut [i16]) -> usize
+    requires { ⌜ (1 ≤ d) × (j ≤ d) × (length (now rows) ≡ rowCount d (now rows) * d) × (length (now rows) ≤ length (now out)) ⌝ }
+    ensures { λ r. ⌜ Kept d j (now (rows .entry)) (now (out .entry)) (now (out .exit)) r ⌝ }
+{
+    let mut at = 0;
+    for i in 0..rows.len() / d {
+        if ends_by(row_at(rows, i, d), j) {
+            copy_row(rows, i, d, out, at);
+            at += d;
+        }
+    }
+    at
+}
+
+// The levels of a list.
+fn set_levels(plan: u8, d: usize, rows: &[i16], top: usize, runs: &mut [i16], sizes: &mut [usize])
+    requires { ⌜ (plan ≤ 4) × ValidList plan d (now rows) × Covered top (now rows) × Covered top (now runs) × (length (now runs) ≡ 21504) × (length (now sizes) ≡ 7) ⌝ }
+    ensures { λ _. ⌜ (Levels plan d top (now (runs .exit)) (now (sizes .exit))) × (searched d (now (runs .exit)) (now (sizes .exit)) ≡ indexList d (now (rows .entry))) ⌝ }
+{
+    for j in 0..d + 1 {
+        let a = j * 3072;
+        let e = a + 3072;
+        sizes[j] = keep_ending(d, rows, j, &mut runs[a..e]);
+    }
+}
+
+// The rule on the rows that are 0 from axis at on.
+fn rule_at(
+    plan: u8,
+    d: usize,
+    runs: &[i16],
+    sizes: &[usize],
+    top: usize,
+    n: u16,
+    at: usize,
+    z: &[u16],
+    products: &[u16],
+    owners: &mut [u16],
+) -> bool
+    requires { ⌜ Stage plan d top (now runs) (now sizes) n at (now z) (now products) (now owners) ⌝ }
+    ensures { λ r. ⌜ Decides r (Fine plan d (now (runs .entry)) (now (sizes .entry)) n at (now (z .entry))) ⌝ }
+{
+    let a = at * 3072;
+    let e = a + sizes[at];
+    rule_holds(plan, d, &runs[a..e], n, &z[..at], products, owners)
+}
+
+// Whether v can be the first component of a first vector at n: it is 0 or divides n.
+fn can_lead(v: u16, n: u16) -> bool
+    ensures { λ r. ⌜ r ≡ (eqb v 0 || eqb (n % v) 0) ⌝ }
+{
+    if v == 0 {
+        return true;
+    }
+    n % v == 0
+}
+
+// Sets component at to v. False where no first vector begins so: the first component neither is 0 nor divides n, or the rule
+// fails on the rows that end there.
+fn try_component(
+    plan: u8,
+    d: usize,
+    runs: &[i16],
+    sizes: &[usize],
+    top: usize,
+    n: u16,
+    at: usize,
+    v: u16,
+    z: &mut [u16],
+    products: &mut [u16],
+    owners: &mut [u16],
+) -> bool
+    requires { ⌜ Stage plan d top (now runs) (now sizes) n at (now z) (now products) (now owners) ⌝ }
+    requires { ⌜ (at < d) × (v < n) ⌝ }
+    ensures { λ r. ⌜ Tried plan d top (now (runs .entry)) (now (sizes .entry)) n at v (now (z .entry)) (now (products .entry)) (now (z .exit)) (now (products .exit)) (now (owners .exit)) r ⌝ }
+{
+    z[at] = v;
+    if at == 0 {
+        if !can_lead(v, n) {
+            return false;
+        }
+    }
+    set_axis(products, at, v, n, top);
+    rule_at(plan, d, runs, sizes, top, n, at + 1, z, products, owners)
+}
+
+// Completes z from component at on.
+fn complete(
+    plan: u8,
+    d: usize,
+    runs: &[i16],
+    sizes: &[usize],
+    top: usize,
+    n: u16,
+    at: usize,
+    z: &mut [u16],
+    products: &mut [u16],
+    owners: &mut [u16],
+) -> bool
+    requires { ⌜ Stage plan d top (now runs) (now sizes) n at (now z) (now products) (now owners) ⌝ }
+    requires { ⌜ Fine plan d (now runs) (now sizes) n at (now z) ⌝ }
+    ensures { λ r. ⌜ Completed plan d (searched d (now (runs .entry)) (now (sizes .entry))) n at (now (z .entry)) (now (z .exit)) r ⌝ }
+    ensures { λ _. ⌜ KeptBelow at (now (products .entry)) (now (products .exit)) ⌝ }
+{
+    if at == d {
+        return true;
+    }
+    for v in 0..n {
+        if try_component(plan, d, runs, sizes, top, n, at, v, z, products, owners) {
+            if complete(plan, d, runs, sizes, top, n, at + 1, z, products, owners) {
+                return true;
+            }
+        }
+    }
+    false
+}
+
+// The first vector at n, or n fails with every vector. Under plans 1 to 4 a modulus below the number of rows fails at once.
+fn first_vector(
+    plan: u8,
+    d: usize,
+    runs: &[i16],
+    sizes: &[usize],
+    top: usize,
+    n: u16,
+    z: &mut [u16],
+    products: &mut [u16],
+    owners: &mut [u16],
+) -> bool
+    requires { ⌜ Levels plan d top (now runs) (now sizes) ⌝ }
+    requires { ⌜ ValidModulus n × (length (now z) ≡ d) × (length (now products) ≡ 3072) × (n ≤ length (now owners)) ⌝ }
+    ensures { λ r. ⌜ Decided plan d (searched d (now (runs .entry)) (now (sizes .entry))) n (now (z .exit)) r ⌝ }
+{
+    if 0 < plan {
+        if (n as usize) < sizes[d] / d {
+            return false;
+        }
+    }
+    if !rule_at(plan, d, runs, sizes, top, n, 0, z, products, owners) {
+        return false;
+    }
+    complete(plan, d, runs, sizes, top, n, 0, z, products, owners)
+}
+
+// Runs the moduli from low to high: the first that does not fail, with its first vector in z; 0 where all fail.
+fn first_modulus(
+    plan: u8,
+    d: usize,
+    runs: &[i16],
+    sizes: &[usize],
+    top: usize,
+    low: u16,
+    high: u16,
+    z: &mut [u16],
+    products: &mut [u16],
+    owners: &mut [u16],
+) -> u16
+    requires { ⌜ Levels plan d top (now runs) (now sizes) ⌝ }
+    requires { ⌜ (1 ≤ low) × (high ≤ 8192) × (length (now z) ≡ d) × (length (now products) ≡ 3072) × (length (now owners) ≡ 8192) ⌝ }
+    ensures { λ r. ⌜ Ascended plan d (searched d (now (runs .entry)) (now (sizes .entry))) low high (now (z .exit)) r ⌝ }
+{
+    let mut n = low;
+    while n <= high {
+        if first_vector(plan, d, runs, sizes, top, n, z, products, owners) {
+            return n;
+        }
+        n += 1;
+    }
+    0
+}
+
+// Copies from into to.
+fn copy(to: &mut [u16], from: &[u16])
+    requires { ⌜ length (now to) ≡ length (now from) ⌝ }
+    ensures { λ _. ⌜ now (to .exit) ≡ now (from .entry) ⌝ }
+{
+    for i in 0..to.len() {
+        to[i] = from[i];
+    }
+}
+
+// The first plan among the moduli from low to high for a valid list. The vector is built in an array of its own, so that the
+// lent places are written only where there is a plan.
+pub fn first_plan(plan: u8, d: usize, rows: &[i16], low: u16, high: u16, z: &mut [u16]) -> Plan
+    requires { ⌜ (plan ≤ 4) × ValidList plan d (now rows) × (1 ≤ low) × (high ≤ 8192) × (length (now z) ≡ d) ⌝ }
+    ensures { λ r. ⌜ PlanBetween plan d (indexList d (now (rows .entry))) low high (now (z .entry)) (now (z .exit)) r ⌝ }
+{
+    let mut runs = [0i16; 21504];
+    let mut sizes = [0usize; 7];
+    let mut products = [0u16; 3072];
+    let mut owners = [0u16; 8192];
+    let mut x = [0u16; 6];
+    let top = largest(rows);
+    set_levels(plan, d, rows, top, &mut runs, &mut sizes);
+    let n = first_modulus(
+        plan,
+        d,
+        &runs,
+        &sizes,
+        top,
+        low,
+        high,
+        &mut x[..d],
+        &mut products,
+        &mut owners,
+    );
+    if n == 0 {
+        return Plan::Refused(9);
+    }
+    copy(z, &x[..d]);
+    Plan::Found(n)
+}
