@@ -1,6 +1,5 @@
 -- Laws that the planner's proofs share.
 pub mod ProductLaws
-pub mod InputLaws
 pub mod Writing
 pub mod PointSteps
 pub mod TakenLaws

@@ -1,7 +1,6 @@
 // The planner's calls: check, residue map, spread, gather and point list (document 01). Every public call takes any arguments,
 // refuses wrong ones by the numbers of document 01's table, and then leaves what it was lent as it was.
 
-mod input;
 mod mirrors;
 mod points;
 mod products;
@@ -31,11 +30,11 @@ pub enum Verdict {
 pub fn check(plan: u8, d: usize, rows: &[i16], n: u16, z: &[u16]) -> Verdict
     ensures { λ r. ⌜ r ≡ checkAnswer plan d (now (rows .entry)) n (now (z .entry)) ⌝ }
 {
-    let plan_refused = input::plan_refusal(plan);
+    let plan_refused = refusal::plan_refusal(plan);
     if plan_refused != 0 {
         return Verdict::Refused(plan_refused);
     }
-    let refused = input::list_pair_refusal(plan, d, rows, n, z);
+    let refused = refusal::list_pair_refusal(plan, d, rows, n, z);
     if refused != 0 {
         return Verdict::Refused(refused);
     }
@@ -129,7 +128,7 @@ pub enum Plan {
 pub fn search_vector(plan: u8, d: usize, rows: &[i16], n: u16, z: &mut [u16]) -> Plan
     ensures { λ r. ⌜ RefusedOr (searchRefusal plan d (now (rows .entry)) n (length (now (z .entry)))) (now (z .entry)) (now (z .exit)) r (FirstOrNone plan d (indexList d (now (rows .entry))) n (now (z .entry)) (now (z .exit)) r) ⌝ }
 {
-    let refused = input::search_refusal(plan, d, rows, n, z.len());
+    let refused = refusal::search_refusal(plan, d, rows, n, z.len());
     if refused != 0 {
         return Plan::Refused(refused);
     }
@@ -140,7 +139,7 @@ pub fn search_vector(plan: u8, d: usize, rows: &[i16], n: u16, z: &mut [u16]) ->
 pub fn search_smallest(plan: u8, d: usize, rows: &[i16], ceiling: u16, z: &mut [u16]) -> Plan
     ensures { λ r. ⌜ RefusedOr (searchRefusal plan d (now (rows .entry)) ceiling (length (now (z .entry)))) (now (z .entry)) (now (z .exit)) r (SmallestOrNone plan d (indexList d (now (rows .entry))) ceiling (now (z .entry)) (now (z .exit)) r) ⌝ }
 {
-    let refused = input::search_refusal(plan, d, rows, ceiling, z.len());
+    let refused = refusal::search_refusal(plan, d, rows, ceiling, z.len());
     if refused != 0 {
         return Plan::Refused(refused);
     }

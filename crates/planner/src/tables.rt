@@ -1,11 +1,11 @@
 // What map, spread, gather and point list refuse.
 
-use crate::input::axes_refusal;
-use crate::input::list_pair_refusal;
-use crate::input::map_plan_refusal;
-use crate::input::pair_refusal;
-use crate::input::places_refusal;
-use crate::input::plan_refusal;
+use refusal::axes_refusal;
+use refusal::list_pair_refusal;
+use refusal::map_plan_refusal;
+use refusal::pair_refusal;
+use refusal::places_refusal;
+use refusal::plan_refusal;
 use crate::points::line_count;
 use crate::rule::admits;
 ghost use mathlib.Core.Path.{_≡_};

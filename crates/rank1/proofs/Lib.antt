@@ -27,3 +27,6 @@ pub mod CountingLaws
 pub mod SearchTests
 pub mod Trials
 pub mod RefusalTrials
+pub mod SymmetryLaws
+pub mod SwapLaws
+pub mod FlipLaws

@@ -6,7 +6,7 @@ use Rattle.rank1.specs.Index.{indexList}
 use Rattle.rank1.specs.RuleTest.{admissible}
 use Rattle.rank1.specs.Refusal.{badPlan, listConditions, pairConditions, checkRefusal}
 use Rattle.planner.specs.Answer.{checkAnswer}
-use Rattle.planner.proofs.InputLaws.{stops, passes}
+use Rattle.refusal.proofs.InputLaws.{stops, passes}
 use Rattle.planner.proofs.CallLaws.{valid-check}
 use Rattle.planner.proofs.CallTheorems.{verdict-yes, verdict-no, verdict-refused}
 use borrow.Author.Needs.{needs}

@@ -10,7 +10,7 @@ use Rattle.rank1.specs.Index.{indexList}
 use Rattle.rank1.specs.Sums.{gatheredTerms}
 use Rattle.rank1.specs.Refusal.{refuse, ungatherable, spreadRefusal, gatherRefusal}
 use Rattle.planner.specs.Inner.{Ready}
-use Rattle.planner.proofs.InputLaws.{stops, passes, ends}
+use Rattle.refusal.proofs.InputLaws.{stops, passes, ends}
 use Rattle.planner.proofs.CallLaws.{ready-whole, covered-valid, refused, given}
 use Rattle.planner.proofs.CallTheorems.{SpreadHanded, spread-clear, gather-order}
 use borrow.Author.Needs.{needs}

@@ -6,7 +6,7 @@ use native.Mathlib.Omega.{arith}
 use lib.ListN.{length}
 use Rattle.rank1.specs.Index.{rowCount, indexList}
 use Rattle.rank1.specs.Refusal.{tableConditions, badPlaces, inadmissible, mapRefusal}
-use Rattle.planner.proofs.InputLaws.{stops, passes, ends, list-stops, list-passes}
+use Rattle.refusal.proofs.InputLaws.{stops, passes, ends, list-stops, list-passes}
 use Rattle.planner.proofs.CallLaws.{ValidCall, valid-table}
 use borrow.Author.Needs.{needs}
 use Rattle.planner.proofs.tables.map_refusal.Statement.{statement}

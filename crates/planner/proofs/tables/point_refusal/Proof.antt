@@ -7,7 +7,7 @@ use native.Mathlib.Omega.{arith}
 use Rattle.rank1.specs.Points.{lineCount}
 use Rattle.rank1.specs.Refusal.{badPlan, badAxes, pairConditions, badPlaces, pointRefusal}
 use Rattle.rank1.proofs.ValidLaws.{axes-clear, valid-pair}
-use Rattle.planner.proofs.InputLaws.{stops, passes, ends, list-stops, list-passes}
+use Rattle.refusal.proofs.InputLaws.{stops, passes, ends, list-stops, list-passes}
 use borrow.Author.Needs.{needs}
 use Rattle.planner.proofs.tables.point_refusal.Statement.{statement}
 use Rattle.planner.proofs.tables.point_refusal.Tie as tie

@@ -4,7 +4,7 @@ use mathlib.Core.List.{[], _∷_}
 use native.Mathlib.Omega.{arith}
 use Rattle.rank1.specs.Index.{rowCount, indexList}
 use Rattle.rank1.specs.Refusal.{tableConditions, badPlaces, inadmissible, spreadRefusal}
-use Rattle.planner.proofs.InputLaws.{stops, passes, ends, list-stops, list-passes}
+use Rattle.refusal.proofs.InputLaws.{stops, passes, ends, list-stops, list-passes}
 use Rattle.planner.proofs.CallLaws.{ValidCall, valid-table}
 use borrow.Author.Needs.{needs}
 use Rattle.planner.proofs.tables.spread_refusal.Statement.{statement}

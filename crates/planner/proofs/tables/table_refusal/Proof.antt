@@ -1,7 +1,7 @@
 -- `table_refusal`: the first of conditions 1 to 7 in map, spread and gather.
 use mathlib.Core.List.{_++_}
 use Rattle.rank1.specs.Refusal.{badMapPlan, listConditions, pairConditions}
-use Rattle.planner.proofs.InputLaws.{stops, passes}
+use Rattle.refusal.proofs.InputLaws.{stops, passes}
 use borrow.Author.Needs.{needs}
 use Rattle.planner.proofs.tables.table_refusal.Statement.{statement}
 use Rattle.planner.proofs.tables.table_refusal.Tie as tie

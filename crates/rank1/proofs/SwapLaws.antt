@@ -1,0 +1,249 @@
+-- Two axes exchanged. Where the list stays itself when axes i < j change places, a vector with its components i and j
+-- exchanged is admissible with it; so in the first vector component i is at most component j. And a test for such axes.
+use mathlib.Core.Path.{_≡_, refl, sym, _∙_, ap, ap₂, subst}
+use mathlib.Core.Logic.{_↔_, _≢_}
+use mathlib.Core.Bool.{Bool, true, false, _||_}
+use mathlib.Core.List.{List, [], _∷_, map, List·Memᴰ, List·Memᴰ·head, List·Memᴰ·tail}
+use Prim.Native.Nat.{ℕ, zero, suc, _<_, _≤_}
+use native.Mathlib.Nat.{suc-inj, mod-eq-of-lt}
+use native.Mathlib.Decide.{ℕ-discrete, decLe}
+use native.Mathlib.Omega.{arith}
+use lib.IntN.{ℤ, pos, natAbs, _+ℤ_, _*ℤ_, +ℤ-assoc, +ℤ-comm}
+use lib.ListN.{length, length-map, length-set, getD, set, replicate, List·getD-map}
+use lib.Seq.{getD-set-same, getD-set-other, set-set, set-getD, ext-getD}
+use Rattle.rank1.specs.Tests.{every, any, sameRow}
+use Rattle.rank1.specs.Residue.{residue, dot}
+use Rattle.rank1.specs.Index.{zeroRow}
+use Rattle.rank1.specs.Rule.{Admissible}
+use Rattle.rank1.specs.Search.{First}
+use Rattle.rank1.proofs.MirrorLaws.{same-length, mirror-sizes}
+use Rattle.rank1.proofs.TestLaws.{every-true, true-every, true-any, true-holds, row-true}
+use Rattle.rank1.proofs.SymmetryLaws.{Symmetry, symmetric, none-lower}
+
+-- ---- components i and j exchanged
+module _ {A : Type 0} where
+  -- where the list has not both, it stays
+  abbrev pub swap : ℕ → ℕ → List A → List A
+  swap i j [] = []
+  swap zero zero (x ∷ xs) = x ∷ xs
+  swap zero (suc j) (x ∷ xs) = getD xs j x ∷ set xs j x
+  swap (suc i) zero (x ∷ xs) = getD xs i x ∷ set xs i x
+  swap (suc i) (suc j) (x ∷ xs) = x ∷ swap i j xs
+
+  -- the length stays
+  pub length-swap : (i j : ℕ) (xs : List A) → length (swap i j xs) ≡ length xs
+  length-swap i j [] = refl
+  length-swap zero zero (x ∷ xs) = refl
+  length-swap zero (suc j) (x ∷ xs) = ap suc (length-set xs j x)
+  length-swap (suc i) zero (x ∷ xs) = ap suc (length-set xs i x)
+  length-swap (suc i) (suc j) (x ∷ xs) = ap suc (length-swap i j xs)
+
+  -- the order of the axes does not matter
+  pub swap-comm : (i j : ℕ) (xs : List A) → swap i j xs ≡ swap j i xs
+  swap-comm i j [] = refl
+  swap-comm zero zero (x ∷ xs) = refl
+  swap-comm zero (suc j) (x ∷ xs) = refl
+  swap-comm (suc i) zero (x ∷ xs) = refl
+  swap-comm (suc i) (suc j) (x ∷ xs) = ap (λ (l : List A). x ∷ l) (swap-comm i j xs)
+
+  -- ---- its components
+  -- within the list the default does not matter
+  getD-any : (xs : List A) (j : ℕ) (v w : A) → j < length xs → getD xs j v ≡ getD xs j w
+  getD-any [] j v w l = absurd (omega arith)
+  getD-any (x ∷ xs) zero v w l = refl
+  getD-any (x ∷ xs) (suc j) v w l = getD-any xs j v w (omega arith)
+
+  -- component i is component j
+  pub swap-left : (i j : ℕ) (xs : List A) (w : A) → i < length xs → j < length xs → getD (swap i j xs) i w ≡ getD xs j w
+  swap-left i j [] w l h = absurd (omega arith)
+  swap-left zero zero (x ∷ xs) w l h = refl
+  swap-left zero (suc j) (x ∷ xs) w l h = getD-any xs j x w (omega arith)
+  swap-left (suc i) zero (x ∷ xs) w l h = getD-set-same xs i x w (omega arith)
+  swap-left (suc i) (suc j) (x ∷ xs) w l h = swap-left i j xs w (omega arith) (omega arith)
+
+  -- component j is component i
+  pub swap-right : (i j : ℕ) (xs : List A) (w : A) → i < length xs → j < length xs → getD (swap i j xs) j w ≡ getD xs i w
+  swap-right i j xs w l h = ap (λ (ys : List A). getD ys j w) (swap-comm i j xs) ∙ swap-left j i xs w h l
+
+  -- the others are the same
+  pub swap-other : (i j a : ℕ) (xs : List A) (w : A) → a ≢ i → a ≢ j → getD (swap i j xs) a w ≡ getD xs a w
+  swap-other i j a [] w p q = refl
+  swap-other zero zero a (x ∷ xs) w p q = refl
+  swap-other zero (suc j) zero (x ∷ xs) w p q = absurd (p refl)
+  swap-other zero (suc j) (suc a) (x ∷ xs) w p q = getD-set-other xs j a x w (λ e. q (ap suc e))
+  swap-other (suc i) zero zero (x ∷ xs) w p q = absurd (q refl)
+  swap-other (suc i) zero (suc a) (x ∷ xs) w p q = getD-set-other xs i a x w (λ e. p (ap suc e))
+  swap-other (suc i) (suc j) zero (x ∷ xs) w p q = refl
+  swap-other (suc i) (suc j) (suc a) (x ∷ xs) w p q = swap-other i j a xs w (λ e. p (ap suc e)) (λ e. q (ap suc e))
+
+  -- and a list with these components is it
+  pub swap-is : (i j : ℕ) (xs ys : List A) (w : A) → i < length xs → j < length xs → length ys ≡ length xs → getD ys i w ≡ getD xs j w → getD ys j w ≡ getD xs i w → ((a : ℕ) → a < length xs → a ≢ i → a ≢ j → getD ys a w ≡ getD xs a w) → ys ≡ swap i j xs
+  swap-is i j xs ys w l h e left right other =
+      ext-getD w ys (swap i j xs) (e ∙ sym (length-swap i j xs)) (λ a k. go a (omega arith) (ℕ-discrete a i) (ℕ-discrete a j))
+    where
+      -- they agree at a
+      Same : ℕ → Type 0
+      Same a = getD ys a w ≡ getD (swap i j xs) a w
+
+      go : (a : ℕ) → a < length xs → Dec (a ≡ i) → Dec (a ≡ j) → Same a
+      go a k (yes p) d = subst Same (sym p) (left ∙ sym (swap-left i j xs w l h))
+      go a k (no p) (yes q) = subst Same (sym q) (right ∙ sym (swap-right i j xs w l h))
+      go a k (no p) (no q) = other a k p q ∙ sym (swap-other i j a xs w p q)
+
+  -- ---- twice is nothing
+  -- the first component comes back
+  back-get : (xs : List A) (j : ℕ) (x : A) → getD (set xs j x) j (getD xs j x) ≡ x
+  back-get [] j x = refl
+  back-get (a ∷ xs) zero x = refl
+  back-get (a ∷ xs) (suc j) x = back-get xs j x
+
+  -- and so does the list
+  back : (xs : List A) (j : ℕ) (x : A) → getD (set xs j x) j (getD xs j x) ∷ set (set xs j x) j (getD xs j x) ≡ x ∷ xs
+  back xs j x = ap₂ (λ (a : A) (l : List A). a ∷ l) (back-get xs j x) (set-set xs j x (getD xs j x) ∙ set-getD xs j x)
+
+  -- at any two places
+  pub swap-swap : (i j : ℕ) (xs : List A) → swap i j (swap i j xs) ≡ xs
+  swap-swap i j [] = refl
+  swap-swap zero zero (x ∷ xs) = refl
+  swap-swap zero (suc j) (x ∷ xs) = back xs j x
+  swap-swap (suc i) zero (x ∷ xs) = back xs i x
+  swap-swap (suc i) (suc j) (x ∷ xs) = ap (λ (l : List A). x ∷ l) (swap-swap i j xs)
+
+  -- different rows stay different
+  pub swap-inj : (i j : ℕ) (xs ys : List A) → swap i j xs ≡ swap i j ys → xs ≡ ys
+  swap-inj i j xs ys e = sym (swap-swap i j xs) ∙ ap (swap i j) e ∙ swap-swap i j ys
+
+  -- ---- a list of one value stays
+  -- any component is that value
+  get-same : (m j : ℕ) (a : A) → getD (replicate m a) j a ≡ a
+  get-same zero j a = refl
+  get-same (suc m) zero a = refl
+  get-same (suc m) (suc j) a = get-same m j a
+
+  -- exchanged with the first
+  front-same : (m j : ℕ) (a : A) → getD (replicate m a) j a ∷ set (replicate m a) j a ≡ a ∷ replicate m a
+  front-same m j a =
+      ap₂ (λ (b : A) (l : List A). b ∷ l) (get-same m j a)
+      (ap (set (replicate m a) j) (sym (get-same m j a)) ∙ set-getD (replicate m a) j a)
+
+  -- at any two places
+  pub swap-same : (i j m : ℕ) (a : A) → swap i j (replicate m a) ≡ replicate m a
+  swap-same i j zero a = refl
+  swap-same zero zero (suc m) a = refl
+  swap-same zero (suc j) (suc m) a = front-same m j a
+  swap-same (suc i) zero (suc m) a = front-same m i a
+  swap-same (suc i) (suc j) (suc m) a = ap (λ (l : List A). a ∷ l) (swap-same i j m a)
+
+-- ---- a function of each component, before or after
+module _ {A B : Type 0} (f : A → B) where
+  -- one component set
+  map-set : (xs : List A) (j : ℕ) (x : A) → map f (set xs j x) ≡ set (map f xs) j (f x)
+  map-set [] j x = refl
+  map-set (a ∷ xs) zero x = refl
+  map-set (a ∷ xs) (suc j) x = ap (λ (l : List B). f a ∷ l) (map-set xs j x)
+
+  -- exchanged with the first
+  map-front : (xs : List A) (j : ℕ) (x : A) → f (getD xs j x) ∷ map f (set xs j x) ≡ getD (map f xs) j (f x) ∷ set (map f xs) j (f x)
+  map-front xs j x = ap₂ (λ (a : B) (l : List B). a ∷ l) (sym (List·getD-map f xs j x)) (map-set xs j x)
+
+  -- at any two places
+  pub map-swap : (i j : ℕ) (xs : List A) → map f (swap i j xs) ≡ swap i j (map f xs)
+  map-swap i j [] = refl
+  map-swap zero zero (x ∷ xs) = refl
+  map-swap zero (suc j) (x ∷ xs) = map-front xs j x
+  map-swap (suc i) zero (x ∷ xs) = map-front xs i x
+  map-swap (suc i) (suc j) (x ∷ xs) = ap (λ (l : List B). f x ∷ l) (map-swap i j xs)
+
+-- ---- h·z: the components may be exchanged in h or in z
+-- the first two of three summands
+left-comm : (a b c : ℤ) → a +ℤ (b +ℤ c) ≡ b +ℤ (a +ℤ c)
+left-comm a b c = sym (+ℤ-assoc a b c) ∙ ap (λ (k : ℤ). k +ℤ c) (+ℤ-comm a b) ∙ +ℤ-assoc b a c
+
+-- the first component and a later one
+dot-front : (j : ℕ) (x y : ℤ) (h z : List ℤ) → length h ≡ length z → dot (getD h j x ∷ set h j x) (y ∷ z) ≡ dot (x ∷ h) (getD z j y ∷ set z j y)
+dot-front j x y [] [] e = refl
+dot-front j x y [] (b ∷ z) e = absurd (omega arith)
+dot-front j x y (a ∷ h) [] e = absurd (omega arith)
+dot-front zero x y (a ∷ h) (b ∷ z) e = left-comm (a *ℤ y) (x *ℤ b) (dot h z)
+dot-front (suc j) x y (a ∷ h) (b ∷ z) e =
+    left-comm (getD h j x *ℤ y) (a *ℤ b) (dot (set h j x) z)
+    ∙ ap (λ (k : ℤ). a *ℤ b +ℤ k) (dot-front j x y h z (suc-inj e))
+    ∙ left-comm (a *ℤ b) (x *ℤ getD z j y) (dot h (set z j y))
+
+-- any two
+pub dot-swap : (i j : ℕ) (h z : List ℤ) → length h ≡ length z → dot (swap i j h) z ≡ dot h (swap i j z)
+dot-swap i j [] z e = refl
+dot-swap i j (a ∷ h) [] e = absurd (omega arith)
+dot-swap zero zero (a ∷ h) (b ∷ z) e = refl
+dot-swap zero (suc j) (a ∷ h) (b ∷ z) e = dot-front j a b h z (suc-inj e)
+dot-swap (suc i) zero (a ∷ h) (b ∷ z) e = dot-front i a b h z (suc-inj e)
+dot-swap (suc i) (suc j) (a ∷ h) (b ∷ z) e = ap (λ (k : ℤ). a *ℤ b +ℤ k) (dot-swap i j h z (suc-inj e))
+
+-- ---- interchangeable axes: the list stays itself when they change places
+abbrev pub Interchangeable : ℕ → ℕ → List (List ℤ) → Type 0
+Interchangeable i j ks = (k : List ℤ) → List·Memᴰ k ks → List·Memᴰ (swap i j k) ks
+
+-- as a test: each row, exchanged, is among the rows
+abbrev pub interchangeable : ℕ → ℕ → List (List ℤ) → Bool
+interchangeable i j ks = every (λ k. any (sameRow (swap i j k)) ks) ks
+
+-- a row found is listed
+pub found-listed : (r : List ℤ) (ks : List (List ℤ)) → any (sameRow r) ks ≡ true → List·Memᴰ r ks
+found-listed r [] e = absurd (true-holds false e)
+found-listed r (k ∷ ks) e = go (found-listed r ks) (sameRow r k) refl
+  where
+    go : (any (sameRow r) ks ≡ true → List·Memᴰ r ks) → (b : Bool) → sameRow r k ≡ b → List·Memᴰ r (k ∷ ks)
+    go rest true p = List·Memᴰ·head (row-true r k .0 p)
+    go rest false p = List·Memᴰ·tail (rest (sym (ap (λ (b : Bool). b || any (sameRow r) ks) p) ∙ e))
+
+-- a row listed is found
+pub listed-found : (r : List ℤ) (ks : List (List ℤ)) → List·Memᴰ r ks → any (sameRow r) ks ≡ true
+listed-found r ks m = true-any (sameRow r) ks r m (row-true r r .1 refl)
+
+-- the test is true just where the axes are interchangeable
+pub decides-interchangeable : (i j : ℕ) (ks : List (List ℤ)) → (interchangeable i j ks ≡ true) ↔ Interchangeable i j ks
+decides-interchangeable i j ks = (
+  (λ e k m. found-listed (swap i j k) ks (every-true found ks e k m)),
+  (λ h. true-every found ks (λ k m. listed-found (swap i j k) ks (h k m))),
+)
+  where
+    found : List ℤ → Bool
+    found k = any (sameRow (swap i j k)) ks
+
+-- ---- the rule
+-- such an exchange is a symmetry of the list
+pub swap-symmetry : (i j : ℕ) (ks : List (List ℤ)) → Interchangeable i j ks → Symmetry ks (swap i j)
+swap-symmetry i j ks closed = record {
+  keeps = closed;
+  one-one = swap-inj i j;
+  empty = refl;
+  zero-row = λ k e.
+      sym (swap-swap i j k) ∙ ap (swap i j) e ∙ swap-same i j (length (swap i j k)) (pos 0) ∙ ap zeroRow (length-swap i j k);
+  same = λ s k e. map-swap natAbs i j s ∙ ap (swap i j) e ∙ sym (map-swap natAbs i j k);
+}
+
+-- z with the two components exchanged is admissible with z
+pub swap-admissible : (plan d : ℕ) (ks : List (List ℤ)) (n : ℕ) (z : List ℤ) (i j : ℕ) → ((k : List ℤ) → List·Memᴰ k ks → length k ≡ d) → Interchangeable i j ks → length z ≡ d → Admissible ks n z plan → Admissible ks n (swap i j z) plan
+swap-admissible plan d ks n z i j long closed e =
+    symmetric plan ks n z (swap i j z) (swap i j) (swap-symmetry i j ks closed)
+    (λ k s m o. ap (residue n) (dot-swap i j s z (same-length s k (mirror-sizes k s o) ∙ long k m ∙ sym e)))
+
+-- ---- in the first vector the components of interchangeable axes rise
+pub swap-first : (plan d : ℕ) (ks : List (List ℤ)) (n : ℕ) (z : List ℕ) (i j : ℕ) → i < j → j < d → ((k : List ℤ) → List·Memᴰ k ks → length k ≡ d) → Interchangeable i j ks → 0 < n → First plan d ks n z → getD z i 0 ≤ getD z j 0
+swap-first plan d ks n z i j l h long closed g f = go (decLe (getD z i 0) (getD z j 0))
+  where
+    size : length (map pos z) ≡ d
+    size = length-map z pos ∙ f .ranged .size
+
+    there : getD (swap i j (map pos z)) i (pos 0) ≡ pos (getD z j 0)
+    there = swap-left i j (map pos z) (pos 0) (omega (arith, size)) (omega (arith, size)) ∙ List·getD-map pos z j 0
+
+    before : (a : ℕ) → a < i → getD (swap i j (map pos z)) a (pos 0) ≡ pos (getD z a 0)
+    before a k = swap-other i j a (map pos z) (pos 0) (λ e. omega arith) (λ e. omega arith) ∙ List·getD-map pos z a 0
+
+    go : Dec (getD z i 0 ≤ getD z j 0) → getD z i 0 ≤ getD z j 0
+    go (yes r) = r
+    go (no r) =
+        absurd (none-lower plan d ks n z g f (swap i j (map pos z)) (length-swap i j (map pos z) ∙ size)
+        (swap-admissible plan d ks n (map pos z) i j long closed size (f .admissible)) i (omega arith) before
+        (subst (λ (c : ℕ). c < getD z i 0) (sym (ap (residue n) there ∙ mod-eq-of-lt (f .ranged .below j h))) (omega arith)))
