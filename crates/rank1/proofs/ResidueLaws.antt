@@ -175,3 +175,7 @@ zero-difference n x y h e =
 
 pub same-residue : (n : ℕ) (x y : ℤ) → 0 < n → (residue n x ≡ residue n y) ↔ Congruent n x y
 same-residue n x y h = (equal-residues n x y h, congruent-residues n x y h)
+
+-- document 01's own example
+pub minus-seven : residue 4 (negsuc 6) ≡ 1
+minus-seven = refl
