@@ -20,7 +20,7 @@ use Rattle.rank1.proofs.TestLaws.{true-holds, holds-true, fails-false, both, jo
 use Rattle.rank1.proofs.IndexLaws.{rows-length, member-length, rows-snoc}
 use Rattle.planner.specs.Inner.{Covered, ZeroFrom}
 use Rattle.planner.proofs.ProductLaws.{covered-take, covered-drop}
-use Rattle.planner.specs.Stage.{zeroFrom, ending, levelRun, searched, Level, Kept, Levels}
+use Rattle.planner.specs.Stage.{zeroFrom, ending, levelRun, searched, Level, Kept, Swaps, Levels}
 
 -- ---- rows that are 0 from an axis on
 -- every number is 0 just where each place holds 0
@@ -249,16 +249,18 @@ keep-all d j i xs old new at e w s = record {
 
 -- ---- the levels, one after the other
 -- the levels before j hold the rows of xs that end by their axes
-pub record LevelsTo (d top j : ℕ) (xs runs : List ℤ) (sizes : List ℕ) : Type 0 where
-  pub tall : length sizes ≡ 7
+pub record LevelsTo (d top j : ℕ) (xs runs : List ℤ) (shape : List ℕ) : Type 0 where
+  pub tall : length shape ≡ 43
+  pub swaps : Swaps d (indexList d xs) shape
   pub long : length runs ≡ 21504
   pub covers : Covered top runs
-  pub few : (i : ℕ) → i < j → getD sizes i 0 ≤ 3072
-  pub level : (i : ℕ) → i < j → Level d (ending i (indexList d xs)) (levelRun runs sizes i)
+  pub few : (i : ℕ) → i < j → getD shape i 0 ≤ 3072
+  pub level : (i : ℕ) → i < j → Level d (ending i (indexList d xs)) (levelRun runs shape i)
 
-pub levels-none : (d top : ℕ) (xs runs : List ℤ) (sizes : List ℕ) → length sizes ≡ 7 → length runs ≡ 21504 → Covered top runs → LevelsTo d top 0 xs runs sizes
-levels-none d top xs runs sizes e f g = record {
+pub levels-none : (d top : ℕ) (xs runs : List ℤ) (shape : List ℕ) → length shape ≡ 43 → Swaps d (indexList d xs) shape → length runs ≡ 21504 → Covered top runs → LevelsTo d top 0 xs runs shape
+levels-none d top xs runs shape e w f g = record {
   tall = e;
+  swaps = w;
   long = f;
   covers = g;
   few = λ i l. absurd (omega arith);
@@ -284,15 +286,16 @@ pub part-size : (j k : ℕ) (runs : List ℤ) → k ≡ 3072 → j < 7 → lengt
 part-size j k runs e l f = length-take-le k (drop (j * 3072) runs) (omega (arith, length-drop (j * 3072) runs)) ∙ e
 
 -- one level more: its rows are kept in the part that was lent, k places from place j × 3072 on, and their size is stored
-module _ (d top j : ℕ) (xs runs : List ℤ) (sizes : List ℕ) (k r : ℕ) (new : List ℤ) where
+module _ (d top j : ℕ) (xs runs : List ℤ) (shape : List ℕ) (k r : ℕ) (new : List ℤ) where
   abbrev after : List ℤ
   after = putMid (j * 3072) k runs new
 
   pub levels-more :
       k ≡ 3072 → j < 7 → length xs ≤ 3072 → Covered top xs → length new ≡ length (take k (drop (j * 3072) runs))
-      → Kept d j xs (take k (drop (j * 3072) runs)) new r → LevelsTo d top j xs runs sizes → LevelsTo d top (j + 1) xs after (set sizes j r)
+      → Kept d j xs (take k (drop (j * 3072) runs)) new r → LevelsTo d top j xs runs shape → LevelsTo d top (j + 1) xs after (set shape j r)
   levels-more e l f g h kept s = record {
-    tall = length-set sizes j r ∙ s .tall;
+    tall = length-set shape j r ∙ s .tall;
+    swaps = record { known = λ a b h i o. s .swaps .known a b h i (λ e. o (getD-set-other shape j (7 + a * 6 + b) r 0 (omega arith) ∙ e)) };
     long = same-len-mid (j * 3072) k runs new h ∙ s .long;
     covers =
         covered-append top (take (j * 3072) runs) (new ++ drop k (drop (j * 3072) runs)) (covered-take top (j * 3072) runs (s .covers))
@@ -300,20 +303,20 @@ module _ (d top j : ℕ) (xs runs : List ℤ) (sizes : List ℕ) (k r : ℕ) (ne
         (kept .covers top g (covered-take top k (drop (j * 3072) runs) (covered-drop top (j * 3072) runs (s .covers))))
         (covered-drop top k (drop (j * 3072) runs) (covered-drop top (j * 3072) runs (s .covers))));
     few =
-        below-more (λ i. getD (set sizes j r) i 0 ≤ 3072) j
+        below-more (λ i. getD (set shape j r) i 0 ≤ 3072) j
         (λ i m. omega (arith, other i m, s .few i m))
         (omega (arith, stored, kept .fits));
     level =
-        below-more (λ i. Level d (ending i (indexList d xs)) (levelRun after (set sizes j r) i)) j
+        below-more (λ i. Level d (ending i (indexList d xs)) (levelRun after (set shape j r) i)) j
         (λ i m. subst (Level d (ending i (indexList d xs))) (sym (before i m)) (s .level i m))
         (subst (Level d (ending j (indexList d xs))) (sym here) (kept .level));
   }
     where
-      stored : getD (set sizes j r) j 0 ≡ r
-      stored = getD-set-same sizes j r 0 (omega (arith, s .tall))
+      stored : getD (set shape j r) j 0 ≡ r
+      stored = getD-set-same shape j r 0 (omega (arith, s .tall))
 
-      other : (i : ℕ) → i < j → getD (set sizes j r) i 0 ≡ getD sizes i 0
-      other i m = getD-set-other sizes j i r 0 (omega arith)
+      other : (i : ℕ) → i < j → getD (set shape j r) i 0 ≡ getD shape i 0
+      other i m = getD-set-other shape j i r 0 (omega arith)
 
       start : j * 3072 ≤ length runs
       start = omega (arith, s .long)
@@ -322,17 +325,17 @@ module _ (d top j : ℕ) (xs runs : List ℤ) (sizes : List ℕ) (k r : ℕ) (ne
       size = h ∙ part-size j k runs e l (s .long)
 
       -- the new level
-      here : levelRun after (set sizes j r) j ≡ take r new
+      here : levelRun after (set shape j r) j ≡ take r new
       here =
           ap (λ (n : ℕ). take n (drop (j * 3072) after)) stored
           ∙ ap (take r) (drop-at (take (j * 3072) runs) (new ++ drop k (drop (j * 3072) runs)) (j * 3072) (length-take-le (j * 3072) runs start))
           ∙ take-append-le r new (drop k (drop (j * 3072) runs)) (omega (arith, size, kept .fits))
 
       -- a level before it
-      before : (i : ℕ) → i < j → levelRun after (set sizes j r) i ≡ levelRun runs sizes i
+      before : (i : ℕ) → i < j → levelRun after (set shape j r) i ≡ levelRun runs shape i
       before i m =
           ap (λ (n : ℕ). take n (drop (i * 3072) after)) (other i m)
-          ∙ part-before (i * 3072) (getD sizes i 0) (j * 3072) runs (new ++ drop k (drop (j * 3072) runs)) (omega (arith, s .few i m)) start
+          ∙ part-before (i * 3072) (getD shape i 0) (j * 3072) runs (new ++ drop k (drop (j * 3072) runs)) (omega (arith, s .few i m)) start
 
 -- a valid list has no more numbers than a level has places
 pub valid-size : (plan d : ℕ) (xs : List ℤ) → ValidList plan d xs → length xs ≤ 3072
@@ -341,9 +344,9 @@ valid-size plan d xs v =
 
 -- all levels are set: the last one is the list itself
 pub levels-all :
-    (plan d top j : ℕ) (xs runs : List ℤ) (sizes : List ℕ) → d < j → plan ≤ 4 → ValidList plan d xs → LevelsTo d top j xs runs sizes
-    → Levels plan d top runs sizes × (searched d runs sizes ≡ indexList d xs)
-levels-all plan d top j xs runs sizes l p v s = (
+    (plan d top j : ℕ) (xs runs : List ℤ) (shape : List ℕ) → d < j → plan ≤ 4 → ValidList plan d xs → LevelsTo d top j xs runs shape
+    → Levels plan d top runs shape × (searched d runs shape ≡ indexList d xs)
+levels-all plan d top j xs runs shape l p v s = (
   record {
     plans = p;
     some-axes = v .some-axes;
@@ -354,8 +357,9 @@ levels-all plan d top j xs runs sizes l p v s = (
     long = λ k m. long k (subst (List·Memᴰ k) same m);
     covers = s .covers;
     tall = s .tall;
+    swaps = subst (λ (ks : List (List ℤ)). Swaps d ks shape) (sym same) (s .swaps);
     room = λ i h. omega (arith, s .few i (omega arith), s .long, v .few-axes);
-    level = λ i h. subst (λ (ks : List (List ℤ)). Level d (ending i ks) (levelRun runs sizes i)) (sym same) (s .level i (omega arith));
+    level = λ i h. subst (λ (ks : List (List ℤ)). Level d (ending i ks) (levelRun runs shape i)) (sym same) (s .level i (omega arith));
   },
   same,
 )
@@ -363,7 +367,7 @@ levels-all plan d top j xs runs sizes l p v s = (
     long : (k : List ℤ) → List·Memᴰ k (indexList d xs) → length k ≡ d
     long k m = member-length d (rowCount d xs) xs k (omega (arith, v .whole)) m
 
-    same : searched d runs sizes ≡ indexList d xs
+    same : searched d runs shape ≡ indexList d xs
     same = s .level d l .rows ∙ ending-all d (indexList d xs) long
 
 -- ---- what the rule asks of a level
@@ -376,18 +380,18 @@ pub record LevelReady (plan d top j : ℕ) (xs : List ℤ) : Type 0 where
   pub ended : (k : List ℤ) → List·Memᴰ k (indexList d xs) → ZeroFrom j k
   pub covers : Covered top xs
 
-pub level-ready : (plan d top j : ℕ) (runs : List ℤ) (sizes : List ℕ) → Levels plan d top runs sizes → j ≤ d → LevelReady plan d top j (levelRun runs sizes j)
-level-ready plan d top j runs sizes s l = record {
+pub level-ready : (plan d top j : ℕ) (runs : List ℤ) (shape : List ℕ) → Levels plan d top runs shape → j ≤ d → LevelReady plan d top j (levelRun runs shape j)
+level-ready plan d top j runs shape s l = record {
   whole = v .whole;
-  few-rows = omega (arith, level-count v, ending-length j (searched d runs sizes), s .few-rows);
-  different = subst Distinct (sym (v .rows)) (ending-distinct j (searched d runs sizes) (s .different));
+  few-rows = omega (arith, level-count v, ending-length j (searched d runs shape), s .few-rows);
+  different = subst Distinct (sym (v .rows)) (ending-distinct j (searched d runs shape) (s .different));
   unsigned = λ h k m. s .unsigned h k (member k m .0);
   ended = λ k m. zero-from j k (member k m .1);
-  covers = covered-take top (getD sizes j 0) (drop (j * 3072) runs) (covered-drop top (j * 3072) runs (s .covers));
+  covers = covered-take top (getD shape j 0) (drop (j * 3072) runs) (covered-drop top (j * 3072) runs (s .covers));
 }
   where
-    v : Level d (ending j (searched d runs sizes)) (levelRun runs sizes j)
+    v : Level d (ending j (searched d runs shape)) (levelRun runs shape j)
     v = s .level j l
 
-    member : (k : List ℤ) → List·Memᴰ k (indexList d (levelRun runs sizes j)) → List·Memᴰ k (searched d runs sizes) × (zeroFrom j k ≡ true)
-    member k m = ending-out j (searched d runs sizes) k (subst (List·Memᴰ k) (v .rows) m)
+    member : (k : List ℤ) → List·Memᴰ k (indexList d (levelRun runs shape j)) → List·Memᴰ k (searched d runs shape) × (zeroFrom j k ≡ true)
+    member k m = ending-out j (searched d runs shape) k (subst (List·Memᴰ k) (v .rows) m)

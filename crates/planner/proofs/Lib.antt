@@ -13,3 +13,4 @@ pub mod SignedSteps
 pub mod SumSteps
 pub mod PlanLaws
 pub mod CallTheorems
+pub mod SwapSteps

@@ -73,9 +73,9 @@ products-kept n top z old new narrow e kept p = record {
   entry = λ j x h b. kept (j * 512 + place x) (omega (arith, place-lt x (omega arith))) ∙ p .entry j x h b;
 }
 
-module _ (plan d top : ℕ) (runs : List ℤ) (sizes : List ℕ) (n at : ℕ) where
+module _ (plan d top : ℕ) (runs : List ℤ) (shape : List ℕ) (n at : ℕ) where
   -- the stage is the same with another vector that begins so and tables that are the same for the axes before it
-  pub stage-kept : (z₀ p₀ o₀ z p o : List ℕ) → length z ≡ length z₀ → Agree at z z₀ → length p ≡ length p₀ → KeptBelow at p₀ p → length o ≡ length o₀ → Stage plan d top runs sizes n at z₀ p₀ o₀ → Stage plan d top runs sizes n at z p o
+  pub stage-kept : (z₀ p₀ o₀ z p o : List ℕ) → length z ≡ length z₀ → Agree at z z₀ → length p ≡ length p₀ → KeptBelow at p₀ p → length o ≡ length o₀ → Stage plan d top runs shape n at z₀ p₀ o₀ → Stage plan d top runs shape n at z p o
   stage-kept z₀ p₀ o₀ z p o lz same lp kept lo s =
       let within : at ≤ length z₀ = omega (arith, s .within, s .size) in
       let begins : take at z ≡ take at z₀ = agree-take at z z₀ (omega arith) within same in
@@ -94,7 +94,7 @@ module _ (plan d top : ℕ) (runs : List ℤ) (sizes : List ℕ) (n at : ℕ) wh
       }
 
   -- and with another table of owners that is as long
-  pub stage-owners : {z p o o′ : List ℕ} → Stage plan d top runs sizes n at z p o → length o′ ≡ length o → Stage plan d top runs sizes n at z p o′
+  pub stage-owners : {z p o o′ : List ℕ} → Stage plan d top runs shape n at z p o → length o′ ≡ length o → Stage plan d top runs shape n at z p o′
   stage-owners {z} {p} {o} {o′} s e = stage-kept z p o z p o′ refl (λ i l. refl) refl (λ i l. refl) e s
 
 -- ---- component k: the values below v are passed
@@ -128,7 +128,7 @@ passed-same {plan = plan} {d = d} {n = n} {k = k} {v = v} {ks = ks} {z₀ = z₀
     (subst (λ (y : List ℕ). Passed plan d ks n k z₀ p₀ o₀ y p o v) (sym ez) passed))
 
 -- the stage is what it was at entry
-pub stage-passed : {plan d top n k v : ℕ} {ks : List (List ℤ)} {runs : List ℤ} {sizes z₀ p₀ o₀ z p o : List ℕ} → Stage plan d top runs sizes n k z₀ p₀ o₀ → Passed plan d ks n k z₀ p₀ o₀ z p o v → Stage plan d top runs sizes n k z p o
+pub stage-passed : {plan d top n k v : ℕ} {ks : List (List ℤ)} {runs : List ℤ} {shape z₀ p₀ o₀ z p o : List ℕ} → Stage plan d top runs shape n k z₀ p₀ o₀ → Passed plan d ks n k z₀ p₀ o₀ z p o v → Stage plan d top runs shape n k z p o
 stage-passed s passed = stage-kept _ _ _ _ _ _ _ _ _ _ _ _ _ (passed .size) (passed .kept) (passed .table-size) (passed .table) (passed .owner-size) s
 
 module _ {plan d n k v : ℕ} {ks : List (List ℤ)} {z₀ p₀ o₀ z p o : List ℕ} (passed : Passed plan d ks n k z₀ p₀ o₀ z p o v) (less : v < n) (within : k < length z₀) {z′ : List ℕ} (stored : z′ ≡ set z k v) where
@@ -196,14 +196,14 @@ ended {k = k} passed done within = record {
 
 -- ---- all components are fixed
 -- every row ends by axis d, so the rule holds of the whole list
-pub whole : {plan d top n k : ℕ} {runs : List ℤ} {sizes z p o : List ℕ} → Stage plan d top runs sizes n k z p o → Fine plan d runs sizes n k z → k ≡ d → Completed plan d (searched d runs sizes) n k z z true
-whole {plan = plan} {d = d} {n = n} {k = k} {runs = runs} {sizes = sizes} {z = z} s good e = record {
+pub whole : {plan d top n k : ℕ} {runs : List ℤ} {shape z p o : List ℕ} → Stage plan d top runs shape n k z p o → Fine plan d runs shape n k z → k ≡ d → Completed plan d (searched d runs shape) n k z z true
+whole {plan = plan} {d = d} {n = n} {k = k} {runs = runs} {shape = shape} {z = z} s good e = record {
   kept = λ i l. refl;
   ranged = λ _. record { size = s .size; below = λ i l. s .below i (omega arith) };
   admissible = λ _.
       subst (λ (ks : List (List ℤ)). Admissible ks n (map pos z) plan)
-      (ap (λ (j : ℕ). ending j (searched d runs sizes)) e ∙ ending-all d (searched d runs sizes) (s .levels .long))
-      (subst (λ (y : List ℕ). Admissible (ending k (searched d runs sizes)) n (map pos y) plan) (take-all k z (omega (arith, s .size))) good);
+      (ap (λ (j : ℕ). ending j (searched d runs shape)) e ∙ ending-all d (searched d runs shape) (s .levels .long))
+      (subst (λ (y : List ℕ). Admissible (ending k (searched d runs shape)) n (map pos y) plan) (take-all k z (omega (arith, s .size))) good);
   least = λ _ y f a b.
       before-irrefl z
       (subst (λ (w : List ℕ). Before w z)
@@ -239,9 +239,9 @@ fine-prefix plan ks n j z f =
 
 -- ---- a component is tried
 -- no first vector begins so where the rule fails on the rows that end there
-pub fine-fails : {plan d top n k : ℕ} {runs : List ℤ} {sizes z p o : List ℕ} → Stage plan d top runs sizes n k z p o → (Fine plan d runs sizes n k z → ⊥) → NoFirstFrom plan d (searched d runs sizes) n k z
+pub fine-fails : {plan d top n k : ℕ} {runs : List ℤ} {shape z p o : List ℕ} → Stage plan d top runs shape n k z p o → (Fine plan d runs shape n k z → ⊥) → NoFirstFrom plan d (searched d runs shape) n k z
 unfolding NoFirstFrom
-fine-fails {plan = plan} {d = d} {n = n} {k = k} {runs = runs} {sizes = sizes} {z = z} s fails y f a =
+fine-fails {plan = plan} {d = d} {n = n} {k = k} {runs = runs} {shape = shape} {z = z} s fails y f a =
     fails
     (subst (λ (x : List ℕ). Admissible (ending k ks) n (map pos x) plan)
     (agree-take k y z (omega (arith, f .ranged .size, s .within)) (omega (arith, s .size, s .within)) a)
@@ -249,7 +249,7 @@ fine-fails {plan = plan} {d = d} {n = n} {k = k} {runs = runs} {sizes = sizes} {
     (part plan ks (ending k ks) n (map pos y) (λ r m. ending-out k ks r m .0) (f .admissible))))
   where
     ks : List (List ℤ)
-    ks = searched d runs sizes
+    ks = searched d runs shape
 
 -- nor where the first component neither is 0 nor divides n
 pub lead-fails : (plan d : ℕ) (ks : List (List ℤ)) (n k v : ℕ) (z : List ℕ) → 0 < n → 1 ≤ d → k ≡ 0 → getD z k 0 ≡ v → (eqb v 0 || eqb (n % v) 0) ≡ false → NoFirstFrom plan d ks n (k + 1) z
@@ -264,7 +264,7 @@ lead-fails plan d ks n k v z l h first is fails y f a =
     here = ap (λ (j : ℕ). getD y j 0) (sym first) ∙ a k (omega arith) ∙ is
 
 -- the next stage: the component is in range, and the products of its axis are set
-pub stage-more : {plan d top n k v : ℕ} {runs : List ℤ} {sizes z p o p′ : List ℕ} → Stage plan d top runs sizes n k z p o → k < d → v < n → AxisSet n v k top p p′ → Stage plan d top runs sizes n (k + 1) (set z k v) p′ o
+pub stage-more : {plan d top n k v : ℕ} {runs : List ℤ} {shape z p o p′ : List ℕ} → Stage plan d top runs shape n k z p o → k < d → v < n → AxisSet n v k top p p′ → Stage plan d top runs shape n (k + 1) (set z k v) p′ o
 stage-more {plan = plan} {d = d} {top = top} {n = n} {k = k} {v = v} {z = z} {p = p} {p′ = p′} s within less set-anew = record {
   levels = s .levels;
   modulus = s .modulus;
@@ -284,10 +284,10 @@ stage-more {plan = plan} {d = d} {top = top} {n = n} {k = k} {v = v} {z = z} {p 
     here = getD-set-same z k v 0 (omega (arith, s .size))
 
 -- ---- the rule on a level
-module _ {plan d top n k : ℕ} {runs : List ℤ} {sizes z p o : List ℕ} (s : Stage plan d top runs sizes n k z p o) (xs : List ℤ) (is : xs ≡ levelRun runs sizes k) where
+module _ {plan d top n k : ℕ} {runs : List ℤ} {shape z p o : List ℕ} (s : Stage plan d top runs shape n k z p o) (xs : List ℤ) (is : xs ≡ levelRun runs shape k) where
   -- its rows are whole, few, different and 0 from there on
   ready : LevelReady plan d top k xs
-  ready = subst (LevelReady plan d top k) (sym is) (level-ready plan d top k runs sizes (s .levels) (s .within))
+  ready = subst (LevelReady plan d top k) (sym is) (level-ready plan d top k runs shape (s .levels) (s .within))
 
   -- the components that are fixed
   fixed : length (take k z) ≡ k
@@ -312,14 +312,14 @@ module _ {plan d top n k : ℕ} {runs : List ℤ} {sizes z p o : List ℕ} (s : 
   stage-unsigned = ready .unsigned
 
   -- what it decides: its rows are those that end there
-  pub stage-decides : (b : Bool) → Decides b (Admissible (indexList d xs) n (map pos (take k z)) plan) → Decides b (Fine plan d runs sizes n k z)
+  pub stage-decides : (b : Bool) → Decides b (Admissible (indexList d xs) n (map pos (take k z)) plan) → Decides b (Fine plan d runs shape n k z)
   stage-decides b =
       subst (λ (ks : List (List ℤ)). Decides b (Admissible ks n (map pos (take k z)) plan))
       (ap (indexList d) is ∙ s .levels .level k (s .within) .rows)
 
 -- ---- the first vector at n
 -- nothing is fixed yet
-pub stage-none : {plan d top : ℕ} {runs : List ℤ} {sizes : List ℕ} → Levels plan d top runs sizes → (n : ℕ) (z p o : List ℕ) → ValidModulus n → length z ≡ d → length p ≡ 3072 → n ≤ length o → Stage plan d top runs sizes n 0 z p o
+pub stage-none : {plan d top : ℕ} {runs : List ℤ} {shape : List ℕ} → Levels plan d top runs shape → (n : ℕ) (z p o : List ℕ) → ValidModulus n → length z ≡ d → length p ≡ 3072 → n ≤ length o → Stage plan d top runs shape n 0 z p o
 stage-none {top = top} l n z p o v e lp lo = record {
   levels = l;
   modulus = v;
@@ -332,24 +332,24 @@ stage-none {top = top} l n z p o v e lp lo = record {
 }
 
 -- there are as many rows as the last level has room for
-searched-length : {plan d top : ℕ} {runs : List ℤ} {sizes : List ℕ} → Levels plan d top runs sizes → length (searched d runs sizes) ≡ getD sizes d 0 / d
-searched-length {d = d} {runs = runs} {sizes = sizes} l =
-    rows-length d (rowCount d (levelRun runs sizes d)) (levelRun runs sizes d)
-    ∙ ap (λ (m : ℕ). m / d) (length-take-le (getD sizes d 0) (drop (d * 3072) runs) (omega (arith, length-drop (d * 3072) runs, l .room d (omega arith))))
+searched-length : {plan d top : ℕ} {runs : List ℤ} {shape : List ℕ} → Levels plan d top runs shape → length (searched d runs shape) ≡ getD shape d 0 / d
+searched-length {d = d} {runs = runs} {shape = shape} l =
+    rows-length d (rowCount d (levelRun runs shape d)) (levelRun runs shape d)
+    ∙ ap (λ (m : ℕ). m / d) (length-take-le (getD shape d 0) (drop (d * 3072) runs) (omega (arith, length-drop (d * 3072) runs, l .room d (omega arith))))
 
 -- fewer numbers than rows
-pub few-numbers : {plan d top : ℕ} {runs : List ℤ} {sizes : List ℕ} → Levels plan d top runs sizes → (n : ℕ) (x : List ℕ) → 0 < plan → 0 < n → n < getD sizes d 0 / d → Decided plan d (searched d runs sizes) n x false
-few-numbers {plan = plan} {d = d} {runs = runs} {sizes = sizes} l n x h i less = record {
+pub few-numbers : {plan d top : ℕ} {runs : List ℤ} {shape : List ℕ} → Levels plan d top runs shape → (n : ℕ) (x : List ℕ) → 0 < plan → 0 < n → n < getD shape d 0 / d → Decided plan d (searched d runs shape) n x false
+few-numbers {plan = plan} {d = d} {runs = runs} {shape = shape} l n x h i less = record {
   found = false-true;
-  none = λ _. few-hopeless plan d (searched d runs sizes) n h (l .plans) (l .different) i (omega (arith, searched-length l));
+  none = λ _. few-hopeless plan d (searched d runs shape) n h (l .plans) (l .different) i (omega (arith, searched-length l));
 }
 
 -- the rows that are 0 throughout fail
-pub nothing-fails : {plan d top n : ℕ} {runs : List ℤ} {sizes z p o : List ℕ} → Stage plan d top runs sizes n 0 z p o → (x : List ℕ) → (Fine plan d runs sizes n 0 z → ⊥) → Decided plan d (searched d runs sizes) n x false
+pub nothing-fails : {plan d top n : ℕ} {runs : List ℤ} {shape z p o : List ℕ} → Stage plan d top runs shape n 0 z p o → (x : List ℕ) → (Fine plan d runs shape n 0 z → ⊥) → Decided plan d (searched d runs shape) n x false
 unfolding NoFirstFrom
-nothing-fails {plan = plan} {d = d} {n = n} {runs = runs} {sizes = sizes} s x fails = record {
+nothing-fails {plan = plan} {d = d} {n = n} {runs = runs} {shape = shape} s x fails = record {
   found = false-true;
-  none = λ _. hopeless plan d (searched d runs sizes) n (s .modulus .low) .0 (λ y f. fine-fails s fails y f (λ i h. absurd (omega arith)));
+  none = λ _. hopeless plan d (searched d runs shape) n (s .modulus .low) .0 (λ y f. fine-fails s fails y f (λ i h. absurd (omega arith)));
 }
 
 -- with nothing fixed, what was completed is the first of all

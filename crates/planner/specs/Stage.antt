@@ -1,8 +1,9 @@
 -- What the private functions of the search ask and give. Nothing here is in a public contract.
 use mathlib.Core.Path.{_≡_}
-use mathlib.Core.Bool.{Bool, true, false, cond}
+use mathlib.Core.Bool.{Bool, true, false, cond, _||_}
 use mathlib.Core.List.{List, [], _∷_, map, List·Memᴰ}
-use Prim.Native.Nat.{ℕ, _+_, _*_, _<_, _≤_}
+use Prim.Native.Nat.{ℕ, _+_, _*_, _%_, _<_, _≤_}
+use lib.Dec.{eqb}
 use lib.IntN.{ℤ, pos}
 use lib.ListN.{length, getD, take, drop, set}
 use Rattle.rank1.specs.Tests.{every, sameNumber}
@@ -10,9 +11,11 @@ use Rattle.rank1.specs.Index.{rowCount, indexList}
 use Rattle.rank1.specs.Rule.{Admissible}
 use Rattle.rank1.specs.Search.{Before, InRange, First, Hopeless}
 use Rattle.rank1.specs.Valid.{Distinct, Nonnegative, ValidModulus}
+use Rattle.rank1.proofs.SwapLaws.{Interchangeable}
 use Rattle.planner.specs.Inner.{Products, Covered}
 
--- ---- levels: for each axis j the rows that are 0 from j on, in 3072 places of their own
+-- ---- levels: for each axis j the rows that are 0 from j on, in 3072 places of their own. Their shape is 43 numbers: the sizes of
+-- the 7 levels, then the marks of the axes that can change places
 -- every component from axis j on is 0
 abbrev pub zeroFrom : ℕ → List ℤ → Bool
 zeroFrom j k = every (sameNumber (pos 0)) (drop j k)
@@ -22,13 +25,13 @@ abbrev pub ending : ℕ → List (List ℤ) → List (List ℤ)
 ending j [] = []
 ending j (k ∷ ks) = cond (zeroFrom j k) (k ∷ ending j ks) (ending j ks)
 
--- the run of level j, whose size is given
+-- the run of level j
 abbrev pub levelRun : List ℤ → List ℕ → ℕ → List ℤ
-levelRun runs sizes j = take (getD sizes j 0) (drop (j * 3072) runs)
+levelRun runs shape j = take (getD shape j 0) (drop (j * 3072) runs)
 
 -- the list that is searched is the last level
 abbrev pub searched : ℕ → List ℤ → List ℕ → List (List ℤ)
-searched d runs sizes = indexList d (levelRun runs sizes d)
+searched d runs shape = indexList d (levelRun runs shape d)
 
 -- a run of rows that hold the list given
 pub record Level (d : ℕ) (ks : List (List ℤ)) (xs : List ℤ) : Type 0 where
@@ -42,19 +45,29 @@ pub record Kept (d j : ℕ) (xs old new : List ℤ) (r : ℕ) : Type 0 where
   pub fits : r ≤ length xs
   pub covers : (top : ℕ) → Covered top xs → Covered top old → Covered top new
 
--- a valid list in levels, no component larger than top
-pub record Levels (plan d top : ℕ) (runs : List ℤ) (sizes : List ℕ) : Type 0 where
+-- ---- axes that can change places
+-- the axis whose component stands at axis a where axes i and j have changed places
+abbrev pub otherAxis : ℕ → ℕ → ℕ → ℕ
+otherAxis i j a = cond (eqb a i) j (cond (eqb a j) i a)
+
+-- where the shape has no 0 at place 7 + 6 i + j, axes i < j are interchangeable in the list
+pub record Swaps (d : ℕ) (ks : List (List ℤ)) (shape : List ℕ) : Type 0 where
+  pub known : (i j : ℕ) → i < j → j < d → (getD shape (7 + i * 6 + j) 0 ≡ 0 → ⊥) → Interchangeable i j ks
+
+-- ---- a valid list in levels, no component larger than top
+pub record Levels (plan d top : ℕ) (runs : List ℤ) (shape : List ℕ) : Type 0 where
   pub plans : plan ≤ 4
   pub some-axes : 1 ≤ d
   pub few-axes : d ≤ 6
-  pub few-rows : length (searched d runs sizes) ≤ 512
-  pub different : Distinct (searched d runs sizes)
-  pub unsigned : 2 ≤ plan → (k : List ℤ) → List·Memᴰ k (searched d runs sizes) → Nonnegative k
-  pub long : (k : List ℤ) → List·Memᴰ k (searched d runs sizes) → length k ≡ d
+  pub few-rows : length (searched d runs shape) ≤ 512
+  pub different : Distinct (searched d runs shape)
+  pub unsigned : 2 ≤ plan → (k : List ℤ) → List·Memᴰ k (searched d runs shape) → Nonnegative k
+  pub long : (k : List ℤ) → List·Memᴰ k (searched d runs shape) → length k ≡ d
   pub covers : Covered top runs
-  pub tall : length sizes ≡ 7
-  pub room : (j : ℕ) → j ≤ d → j * 3072 + getD sizes j 0 ≤ length runs
-  pub level : (j : ℕ) → j ≤ d → Level d (ending j (searched d runs sizes)) (levelRun runs sizes j)
+  pub tall : length shape ≡ 43
+  pub swaps : Swaps d (searched d runs shape) shape
+  pub room : (j : ℕ) → j ≤ d → j * 3072 + getD shape j 0 ≤ length runs
+  pub level : (j : ℕ) → j ≤ d → Level d (ending j (searched d runs shape)) (levelRun runs shape j)
 
 -- ---- prefixes
 -- y and z have the same components below k
@@ -66,8 +79,8 @@ unfoldable pub NoFirstFrom : ℕ → ℕ → List (List ℤ) → ℕ → ℕ →
 NoFirstFrom plan d ks n k z = (y : List ℕ) → First plan d ks n y → Agree k y z → ⊥
 
 -- the first at components of z are fixed and their products set
-pub record Stage (plan d top : ℕ) (runs : List ℤ) (sizes : List ℕ) (n at : ℕ) (z products owners : List ℕ) : Type 0 where
-  pub levels : Levels plan d top runs sizes
+pub record Stage (plan d top : ℕ) (runs : List ℤ) (shape : List ℕ) (n at : ℕ) (z products owners : List ℕ) : Type 0 where
+  pub levels : Levels plan d top runs shape
   pub modulus : ValidModulus n
   pub within : at ≤ d
   pub size : length z ≡ d
@@ -78,19 +91,33 @@ pub record Stage (plan d top : ℕ) (runs : List ℤ) (sizes : List ℕ) (n at :
 
 -- the rule holds of the rows that are 0 from axis at on
 abbrev pub Fine : ℕ → ℕ → List ℤ → List ℕ → ℕ → ℕ → List ℕ → Type 0
-Fine plan d runs sizes n at z = Admissible (ending at (searched d runs sizes)) n (map pos (take at z)) plan
+Fine plan d runs shape n at z = Admissible (ending at (searched d runs shape)) n (map pos (take at z)) plan
 
 -- the entries of the axes before at are as they were
 abbrev pub KeptBelow : ℕ → List ℕ → List ℕ → Type 0
 KeptBelow at old new = (i : ℕ) → i < at * 512 → getD new i 0 ≡ getD old i 0
 
+-- v is below the component of an earlier axis with which axis at can change places
+pub record Falls (shape : List ℕ) (at v : ℕ) (z : List ℕ) : Type 0 where
+  pub axis : ℕ
+  pub earlier : axis < at
+  pub marked : getD shape (7 + axis * 6 + at) 0 ≡ 0 → ⊥
+  pub lower : v < getD z axis 0
+
+-- why no first vector that begins as z has v at axis at: a first component that neither is 0 nor divides n, one above n / 2 under
+-- plan A, or one that falls
+pub data RuledOut (plan : ℕ) (shape : List ℕ) (n at v : ℕ) (z : List ℕ) : Type 0 where
+  leads : at ≡ 0 → (eqb v 0 || eqb (n % v) 0) ≡ false → RuledOut plan shape n at v z
+  high : plan ≡ 2 → n < 2 * v → RuledOut plan shape n at v z
+  low : Falls shape at v z → RuledOut plan shape n at v z
+
 -- component at is set to v: with true the next stage is reached, with false no first vector begins so
-pub record Tried (plan d top : ℕ) (runs : List ℤ) (sizes : List ℕ) (n at v : ℕ) (z products z′ products′ owners′ : List ℕ) (r : Bool) : Type 0 where
+pub record Tried (plan d top : ℕ) (runs : List ℤ) (shape : List ℕ) (n at v : ℕ) (z products z′ products′ owners′ : List ℕ) (r : Bool) : Type 0 where
   pub stored : z′ ≡ set z at v
   pub kept : KeptBelow at products products′
-  pub stage : r ≡ true → Stage plan d top runs sizes n (at + 1) z′ products′ owners′
-  pub fine : r ≡ true → Fine plan d runs sizes n (at + 1) z′
-  pub none : r ≡ false → NoFirstFrom plan d (searched d runs sizes) n (at + 1) z′
+  pub stage : r ≡ true → Stage plan d top runs shape n (at + 1) z′ products′ owners′
+  pub fine : r ≡ true → Fine plan d runs shape n (at + 1) z′
+  pub none : r ≡ false → NoFirstFrom plan d (searched d runs shape) n (at + 1) z′
 
 -- what completing z from component k on gives: the new vector x, and whether it is one
 pub record Completed (plan d : ℕ) (ks : List (List ℤ)) (n k : ℕ) (z x : List ℕ) (r : Bool) : Type 0 where

@@ -49,9 +49,9 @@ pub fn check(plan: u8, d: usize, rows: &[i16], n: u16, z: &[u16]) -> Verdict
 pub fn residue_map(plan: u8, d: usize, rows: &[i16], n: u16, z: &[u16], out: &mut [u16]) -> u8
     ensures { λ r. ⌜ Answered (mapRefusal plan d (now (rows .entry)) n (now (z .entry)) (length (now (out .entry)))) (residueMap plan n (map pos (now (z .entry))) (indexList d (now (rows .entry)))) (now (out .entry)) (now (out .exit)) r ⌝ }
 {
-    let refused = tables::map_refusal(plan, d, rows, n, z, out.len());
-    if refused != 0 {
-        return refused;
+    let number = tables::map_refusal(plan, d, rows, n, z, out.len());
+    if number != 0 {
+        return number;
     }
     let mut products = [0u16; 3072];
     products::prepare(z, n, products::largest(rows), &mut products);

@@ -16,7 +16,7 @@ ghost use Rattle.planner.specs.Inner.{RowReady};
 ghost use Rattle.rank1.proofs.MirrorLaws.{nonzeros};
 
 // The axes on which a row is not 0, as bits.
-pub fn nonzero_mask(row: &[i16]) -> u32
+pub(crate) fn nonzero_mask(row: &[i16]) -> u32
     requires { ⌜ length (now row) ≤ 6 ⌝ }
     ensures { λ r. ⌜ (ones r ≡ nonzeros (now (row .entry))) × (r < 2 ^ length (now (row .entry))) ⌝ }
 {
@@ -30,7 +30,7 @@ pub fn nonzero_mask(row: &[i16]) -> u32
 }
 
 // How many mirrors a row has: 2 to the number of its non-zero components.
-pub fn mirror_count(row: &[i16]) -> usize
+pub(crate) fn mirror_count(row: &[i16]) -> usize
     requires { ⌜ length (now row) ≤ 6 ⌝ }
     ensures { λ r. ⌜ (r ≡ length (mirrors (now (row .entry)))) × (1 ≤ r) × (r ≤ 64) ⌝ }
 {
@@ -49,7 +49,7 @@ fn reflect(out: &mut [u16], count: usize, step: u16, n: u16)
 }
 
 // The residues of a row's mirrors: from the last axis to the first, each component that is not 0 doubles what stands there.
-pub fn mirror_residues(row: &[i16], z: &[u16], n: u16, products: &[u16], out: &mut [u16])
+pub(crate) fn mirror_residues(row: &[i16], z: &[u16], n: u16, products: &[u16], out: &mut [u16])
     requires { ⌜ RowReady n (now z) (now row) (now products) ⌝ }
     requires { ⌜ length (now out) ≡ 64 ⌝ }
     ensures { λ _. ⌜ take (length (mirrors (now (row .entry)))) (now (out .exit)) ≡ map (residueAt n (map pos (now (z .entry)))) (mirrors (now (row .entry))) ⌝ }
@@ -70,7 +70,7 @@ pub fn mirror_residues(row: &[i16], z: &[u16], n: u16, products: &[u16], out: &m
 
 // The residues of the rows that S(k) stands for under a plan, and how many there are: the mirrors for plans 2, 3 and 4, the row
 // alone for plans 0 and 1.
-pub fn residues_under(
+pub(crate) fn residues_under(
     plan: u8,
     row: &[i16],
     z: &[u16],

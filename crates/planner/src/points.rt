@@ -28,7 +28,7 @@ fn coordinate_of(plan: u8, n: u16, r: u16) -> u16
 }
 
 // How many lines the list has.
-pub fn line_count(plan: u8, n: u16) -> usize
+pub(crate) fn line_count(plan: u8, n: u16) -> usize
     ensures { λ r. ⌜ r ≡ lineCount plan n ⌝ }
 {
     n as usize
@@ -55,7 +55,7 @@ fn write_line(plan: u8, n: u16, z: &[u16], i: u16, out: &mut [u16], at: usize)
 }
 
 // The whole list, line 0 and up.
-pub fn write_points(plan: u8, d: usize, n: u16, z: &[u16], out: &mut [u16])
+pub(crate) fn write_points(plan: u8, d: usize, n: u16, z: &[u16], out: &mut [u16])
     requires { ⌜ (d ≤ 6) × ValidModulus n × InRange n d (now z) × (length (now out) ≡ lineCount plan n * d) ⌝ }
     ensures { λ _. ⌜ now (out .exit) ≡ pointList plan n (now (z .entry)) ⌝ }
 {

@@ -11,7 +11,7 @@ ghost use Rattle.rank1.specs.Valid.{ValidModulus};
 ghost use Rattle.planner.specs.Inner.{place, Products, AxisSet, Covered, Prepared};
 
 // Where the product of x stands among the places of its axis.
-pub fn place_of(x: i16) -> usize
+pub(crate) fn place_of(x: i16) -> usize
     requires { ⌜ natAbs x ≤ 255 ⌝ }
     ensures { λ r. ⌜ (r ≡ place x) × (r < 512) ⌝ }
 {
@@ -27,7 +27,7 @@ fn size_of(x: i16) -> usize
 }
 
 // The largest size of a component.
-pub fn largest(rows: &[i16]) -> usize
+pub(crate) fn largest(rows: &[i16]) -> usize
     requires { ⌜ Covered 255 (now rows) ⌝ }
     ensures { λ r. ⌜ Covered r (now (rows .entry)) ⌝ }
 {
@@ -50,7 +50,7 @@ fn negative(p: u16, n: u16) -> u16
 }
 
 // The residue of a sum of two residues.
-pub fn sum_of(p: u16, q: u16, n: u16) -> u16
+pub(crate) fn sum_of(p: u16, q: u16, n: u16) -> u16
     requires { ⌜ (p < n) × (q < n) × (n ≤ 8192) ⌝ }
     ensures { λ r. ⌜ (r ≡ (p + q) % n) × (r < n) ⌝ }
 {
@@ -59,7 +59,7 @@ pub fn sum_of(p: u16, q: u16, n: u16) -> u16
 }
 
 // Sets the products of v on one axis, for the numbers of size at most top.
-pub fn set_axis(products: &mut [u16], axis: usize, v: u16, n: u16, top: usize)
+pub(crate) fn set_axis(products: &mut [u16], axis: usize, v: u16, n: u16, top: usize)
     requires { ⌜ (axis < 6) × (length (now products) ≡ 3072) × (v < n) × ValidModulus n × (top ≤ 255) ⌝ }
     ensures { λ _. ⌜ AxisSet n v axis top (now (products .entry)) (now (products .exit)) ⌝ }
 {
@@ -73,7 +73,7 @@ pub fn set_axis(products: &mut [u16], axis: usize, v: u16, n: u16, top: usize)
 }
 
 // Sets the products of all components of z.
-pub fn prepare(z: &[u16], n: u16, top: usize, products: &mut [u16])
+pub(crate) fn prepare(z: &[u16], n: u16, top: usize, products: &mut [u16])
     requires { ⌜ (length (now z) ≤ 6) × (length (now products) ≡ 3072) × ValidModulus n × (top ≤ 255) ⌝ }
     requires { ⌜ ((j : ℕ) → j < length (now z) → getD (now z) j 0 < n) ⌝ }
     ensures { λ _. ⌜ Products n (now (z .entry)) top (now (products .exit)) ⌝ }
@@ -84,7 +84,7 @@ pub fn prepare(z: &[u16], n: u16, top: usize, products: &mut [u16])
 }
 
 // Row i of a run of rows of d numbers.
-pub fn row_at(rows: &[i16], i: usize, d: usize) -> &[i16]
+pub(crate) fn row_at(rows: &[i16], i: usize, d: usize) -> &[i16]
     requires { ⌜ (i + 1) * d ≤ length (now rows) ⌝ }
     ensures { λ r. ⌜ (now r ≡ take d (drop (i * d) (now (rows .entry)))) × (length (now r) ≡ d) ⌝ }
 {
@@ -94,7 +94,7 @@ pub fn row_at(rows: &[i16], i: usize, d: usize) -> &[i16]
 }
 
 // The residue of a row, whose components from z's length on do not count.
-pub fn row_residue(row: &[i16], z: &[u16], n: u16, products: &[u16]) -> u16
+pub(crate) fn row_residue(row: &[i16], z: &[u16], n: u16, products: &[u16]) -> u16
     requires { ⌜ (length (now z) ≤ length (now row)) × (length (now z) ≤ 6) × ValidModulus n ⌝ }
     requires { ⌜ Prepared n (now z) (now row) (now products) ⌝ }
     ensures { λ r. ⌜ (r ≡ residueAt n (map pos (now (z .entry))) (now (row .entry))) × (r < n) ⌝ }

@@ -158,7 +158,7 @@ fn clashes(plan: u8, i: usize, owner: usize) -> bool
 }
 
 // The plan's rule.
-pub fn rule_holds(
+pub(crate) fn rule_holds(
     plan: u8,
     d: usize,
     rows: &[i16],
@@ -188,7 +188,7 @@ pub fn rule_holds(
 }
 
 // The plan's rule of a valid list and pair, with tables of its own.
-pub fn admits(plan: u8, d: usize, rows: &[i16], n: u16, z: &[u16]) -> bool
+pub(crate) fn admits(plan: u8, d: usize, rows: &[i16], n: u16, z: &[u16]) -> bool
     requires { ⌜ (plan ≤ 4) × ValidList plan d (now rows) × ValidModulus n × InRange n d (now z) ⌝ }
     ensures { λ r. ⌜ r ≡ admissible (indexList d (now (rows .entry))) n (map pos (now (z .entry))) plan ⌝ }
 {

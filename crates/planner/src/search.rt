@@ -1,6 +1,8 @@
 // The searches: components are fixed from the first to the last by recursion; the number of unfixed ones falls at each call.
 // Before it goes deeper the search tests the plan's rule on the rows that are 0 from the next axis on: their residues hang on
-// the fixed components alone. What is known of a vector that the search passes over is that no First vector begins so.
+// the fixed components alone. Before that it passes over the values of a component that no First vector can have: a first
+// component that neither is 0 nor divides n, under plan A one above n / 2, and one below that of an earlier axis with which its
+// axis can change places. What is known of a vector that the search passes over is that no First vector begins so.
 
 use crate::Plan;
 use crate::products::largest;
@@ -9,7 +11,7 @@ use crate::products::set_axis;
 use crate::rule::rule_holds;
 ghost use mathlib.Core.Path.{_≡_};
 ghost use mathlib.Core.Bool.{true, false};
-ghost use mathlib.Core.List.{_++_};
+ghost use mathlib.Core.List.{_++_, List·Memᴰ};
 ghost use Prim.Native.Nat.{ℕ, _+_, _*_, _%_, _≤_, _<_};
 ghost use lib.IntN.{pos};
 ghost use lib.Dec.{eqb};
@@ -18,9 +20,10 @@ ghost use lib.ListN.{length, getD, take, drop};
 ghost use Rattle.rank1.specs.Index.{indexList, rowCount};
 ghost use Rattle.rank1.specs.Rule.{Admissible};
 ghost use Rattle.rank1.specs.Valid.{ValidList, ValidModulus};
+ghost use Rattle.rank1.proofs.SwapLaws.{swap, Interchangeable};
 ghost use Rattle.planner.specs.Inner.{Decides, Covered};
 ghost use Rattle.planner.specs.Answer.{PlanBetween};
-ghost use Rattle.planner.specs.Stage.{zeroFrom, ending, searched, Level, Levels, Stage, Fine, KeptBelow, Tried, Completed, Decided, Ascended, Kept};
+ghost use Rattle.planner.specs.Stage.{zeroFrom, searched, otherAxis, Swaps, Levels, Stage, Fine, KeptBelow, Falls, RuledOut, Tried, Completed, Decided, Ascended, Kept};
 
 // Whether a row is 0 from axis j on.
 fn ends_by(row: &[i16], j: usize) -> bool
@@ -61,15 +64,78 @@ fn keep_ending(d: usize, rows: &[i16], j: usize, out: &mut [i16]) -> usize
     at
 }
 
+// The axis whose component stands at axis a where axes i and j have changed places.
+fn other_axis(a: usize, i: usize, j: usize) -> usize
+    ensures { λ r. ⌜ r ≡ otherAxis i j a ⌝ }
+{
+    if a == i {
+        return j;
+    }
+    if a == j { i } else { a }
+}
+
+// Whether a row is another with its components i and j exchanged.
+fn swapped_row_equal(row: &[i16], other: &[i16], i: usize, j: usize) -> bool
+    requires { ⌜ (length (now row) ≡ length (now other)) × (i < length (now other)) × (j < length (now other)) ⌝ }
+    ensures { λ r. ⌜ (r ≡ true → now (row .entry) ≡ swap i j (now (other .entry))) ⌝ }
+{
+    for a in 0..row.len() {
+        if row[a] != other[other_axis(a, i, j)] {
+            return false;
+        }
+    }
+    true
+}
+
+// Whether a row with its components i and j exchanged is one of the rows.
+fn stands_swapped(d: usize, rows: &[i16], row: &[i16], i: usize, j: usize) -> bool
+    requires { ⌜ (1 ≤ d) × (i < d) × (j < d) × (length (now row) ≡ d) × (length (now rows) ≡ rowCount d (now rows) * d) ⌝ }
+    ensures { λ r. ⌜ (r ≡ true → List·Memᴰ (swap i j (now (row .entry))) (indexList d (now (rows .entry)))) ⌝ }
+{
+    for t in 0..rows.len() / d {
+        if swapped_row_equal(row_at(rows, t, d), row, i, j) {
+            return true;
+        }
+    }
+    false
+}
+
+// Whether the list stays itself when axes i and j change places.
+fn axes_interchange(d: usize, rows: &[i16], i: usize, j: usize) -> bool
+    requires { ⌜ (1 ≤ d) × (i < d) × (j < d) × (length (now rows) ≡ rowCount d (now rows) * d) ⌝ }
+    ensures { λ r. ⌜ (r ≡ true → Interchangeable i j (indexList d (now (rows .entry)))) ⌝ }
+{
+    for t in 0..rows.len() / d {
+        if !stands_swapped(d, rows, row_at(rows, t, d), i, j) {
+            return false;
+        }
+    }
+    true
+}
+
+// Marks the pairs of axes that can change places.
+fn set_swaps(d: usize, rows: &[i16], shape: &mut [usize])
+    requires { ⌜ (1 ≤ d) × (d ≤ 6) × (length (now rows) ≡ rowCount d (now rows) * d) × (length (now shape) ≡ 43) × Swaps d (indexList d (now rows)) (now shape) ⌝ }
+    ensures { λ _. ⌜ Swaps d (indexList d (now (rows .entry))) (now (shape .exit)) ⌝ }
+{
+    for j in 1..d {
+        for i in 0..j {
+            if axes_interchange(d, rows, i, j) {
+                shape[7 + i * 6 + j] = 1;
+            }
+        }
+    }
+}
+
 // The levels of a list.
-fn set_levels(plan: u8, d: usize, rows: &[i16], top: usize, runs: &mut [i16], sizes: &mut [usize])
-    requires { ⌜ (plan ≤ 4) × ValidList plan d (now rows) × Covered top (now rows) × Covered top (now runs) × (length (now runs) ≡ 21504) × (length (now sizes) ≡ 7) ⌝ }
-    ensures { λ _. ⌜ (Levels plan d top (now (runs .exit)) (now (sizes .exit))) × (searched d (now (runs .exit)) (now (sizes .exit)) ≡ indexList d (now (rows .entry))) ⌝ }
+fn set_levels(plan: u8, d: usize, rows: &[i16], top: usize, runs: &mut [i16], shape: &mut [usize])
+    requires { ⌜ (plan ≤ 4) × ValidList plan d (now rows) × Covered top (now rows) × Covered top (now runs) × (length (now runs) ≡ 21504) × (length (now shape) ≡ 43) × Swaps d (indexList d (now rows)) (now shape) ⌝ }
+    ensures { λ _. ⌜ (Levels plan d top (now (runs .exit)) (now (shape .exit))) × (searched d (now (runs .exit)) (now (shape .exit)) ≡ indexList d (now (rows .entry))) ⌝ }
 {
     for j in 0..d + 1 {
         let a = j * 3072;
         let e = a + 3072;
-        sizes[j] = keep_ending(d, rows, j, &mut runs[a..e]);
+        shape[j] = keep_ending(d, rows, j, &mut runs[a..e]);
     }
 }
 
@@ -78,7 +144,7 @@ fn rule_at(
     plan: u8,
     d: usize,
     runs: &[i16],
-    sizes: &[usize],
+    shape: &[usize],
     top: usize,
     n: u16,
     at: usize,
@@ -86,11 +152,11 @@ fn rule_at(
     products: &[u16],
     owners: &mut [u16],
 ) -> bool
-    requires { ⌜ Stage plan d top (now runs) (now sizes) n at (now z) (now products) (now owners) ⌝ }
-    ensures { λ r. ⌜ Decides r (Fine plan d (now (runs .entry)) (now (sizes .entry)) n at (now (z .entry))) ⌝ }
+    requires { ⌜ Stage plan d top (now runs) (now shape) n at (now z) (now products) (now owners) ⌝ }
+    ensures { λ r. ⌜ Decides r (Fine plan d (now (runs .entry)) (now (shape .entry)) n at (now (z .entry))) ⌝ }
 {
     let a = at * 3072;
-    let e = a + sizes[at];
+    let e = a + shape[at];
     rule_holds(plan, d, &runs[a..e], n, &z[..at], products, owners)
 }
 
@@ -104,13 +170,44 @@ fn can_lead(v: u16, n: u16) -> bool
     n % v == 0
 }
 
-// Sets component at to v. False where no first vector begins so: the first component neither is 0 nor divides n, or the rule
-// fails on the rows that end there.
+// Whether v is below the component of an earlier axis with which axis at can change places.
+fn falls(shape: &[usize], at: usize, v: u16, z: &[u16]) -> bool
+    requires { ⌜ (length (now shape) ≡ 43) × (at < 6) × (at ≤ length (now z)) ⌝ }
+    ensures { λ r. ⌜ (r ≡ true → Falls (now (shape .entry)) at v (now (z .entry))) ⌝ }
+{
+    for i in 0..at {
+        if v < z[i] {
+            if shape[7 + i * 6 + at] != 0 {
+                return true;
+            }
+        }
+    }
+    false
+}
+
+// Whether no first vector that begins as z has v at axis at, whatever the rows there.
+fn ruled_out(plan: u8, shape: &[usize], n: u16, at: usize, v: u16, z: &[u16]) -> bool
+    requires { ⌜ (length (now shape) ≡ 43) × (at < 6) × (at ≤ length (now z)) × (v < 8192) ⌝ }
+    ensures { λ r. ⌜ (r ≡ true → RuledOut plan (now (shape .entry)) n at v (now (z .entry))) ⌝ }
+{
+    if at == 0 {
+        return !can_lead(v, n);
+    }
+    if plan == 2 {
+        if n < 2 * v {
+            return true;
+        }
+    }
+    falls(shape, at, v, z)
+}
+
+// Sets component at to v. False where no first vector begins so: the value is ruled out, or the rule fails on the rows that end
+// there.
 fn try_component(
     plan: u8,
     d: usize,
     runs: &[i16],
-    sizes: &[usize],
+    shape: &[usize],
     top: usize,
     n: u16,
     at: usize,
@@ -119,18 +216,16 @@ fn try_component(
     products: &mut [u16],
     owners: &mut [u16],
 ) -> bool
-    requires { ⌜ Stage plan d top (now runs) (now sizes) n at (now z) (now products) (now owners) ⌝ }
+    requires { ⌜ Stage plan d top (now runs) (now shape) n at (now z) (now products) (now owners) ⌝ }
     requires { ⌜ (at < d) × (v < n) ⌝ }
-    ensures { λ r. ⌜ Tried plan d top (now (runs .entry)) (now (sizes .entry)) n at v (now (z .entry)) (now (products .entry)) (now (z .exit)) (now (products .exit)) (now (owners .exit)) r ⌝ }
+    ensures { λ r. ⌜ Tried plan d top (now (runs .entry)) (now (shape .entry)) n at v (now (z .entry)) (now (products .entry)) (now (z .exit)) (now (products .exit)) (now (owners .exit)) r ⌝ }
 {
     z[at] = v;
-    if at == 0 {
-        if !can_lead(v, n) {
-            return false;
-        }
+    if ruled_out(plan, shape, n, at, v, z) {
+        return false;
     }
     set_axis(products, at, v, n, top);
-    rule_at(plan, d, runs, sizes, top, n, at + 1, z, products, owners)
+    rule_at(plan, d, runs, shape, top, n, at + 1, z, products, owners)
 }
 
 // Completes z from component at on.
@@ -138,7 +233,7 @@ fn complete(
     plan: u8,
     d: usize,
     runs: &[i16],
-    sizes: &[usize],
+    shape: &[usize],
     top: usize,
     n: u16,
     at: usize,
@@ -146,17 +241,17 @@ fn complete(
     products: &mut [u16],
     owners: &mut [u16],
 ) -> bool
-    requires { ⌜ Stage plan d top (now runs) (now sizes) n at (now z) (now products) (now owners) ⌝ }
-    requires { ⌜ Fine plan d (now runs) (now sizes) n at (now z) ⌝ }
-    ensures { λ r. ⌜ Completed plan d (searched d (now (runs .entry)) (now (sizes .entry))) n at (now (z .entry)) (now (z .exit)) r ⌝ }
+    requires { ⌜ Stage plan d top (now runs) (now shape) n at (now z) (now products) (now owners) ⌝ }
+    requires { ⌜ Fine plan d (now runs) (now shape) n at (now z) ⌝ }
+    ensures { λ r. ⌜ Completed plan d (searched d (now (runs .entry)) (now (shape .entry))) n at (now (z .entry)) (now (z .exit)) r ⌝ }
     ensures { λ _. ⌜ KeptBelow at (now (products .entry)) (now (products .exit)) ⌝ }
 {
     if at == d {
         return true;
     }
     for v in 0..n {
-        if try_component(plan, d, runs, sizes, top, n, at, v, z, products, owners) {
-            if complete(plan, d, runs, sizes, top, n, at + 1, z, products, owners) {
+        if try_component(plan, d, runs, shape, top, n, at, v, z, products, owners) {
+            if complete(plan, d, runs, shape, top, n, at + 1, z, products, owners) {
                 return true;
             }
         }
@@ -169,26 +264,26 @@ fn first_vector(
     plan: u8,
     d: usize,
     runs: &[i16],
-    sizes: &[usize],
+    shape: &[usize],
     top: usize,
     n: u16,
     z: &mut [u16],
     products: &mut [u16],
     owners: &mut [u16],
 ) -> bool
-    requires { ⌜ Levels plan d top (now runs) (now sizes) ⌝ }
+    requires { ⌜ Levels plan d top (now runs) (now shape) ⌝ }
     requires { ⌜ ValidModulus n × (length (now z) ≡ d) × (length (now products) ≡ 3072) × (n ≤ length (now owners)) ⌝ }
-    ensures { λ r. ⌜ Decided plan d (searched d (now (runs .entry)) (now (sizes .entry))) n (now (z .exit)) r ⌝ }
+    ensures { λ r. ⌜ Decided plan d (searched d (now (runs .entry)) (now (shape .entry))) n (now (z .exit)) r ⌝ }
 {
     if 0 < plan {
-        if (n as usize) < sizes[d] / d {
+        if (n as usize) < shape[d] / d {
             return false;
         }
     }
-    if !rule_at(plan, d, runs, sizes, top, n, 0, z, products, owners) {
+    if !rule_at(plan, d, runs, shape, top, n, 0, z, products, owners) {
         return false;
     }
-    complete(plan, d, runs, sizes, top, n, 0, z, products, owners)
+    complete(plan, d, runs, shape, top, n, 0, z, products, owners)
 }
 
 // Runs the moduli from low to high: the first that does not fail, with its first vector in z; 0 where all fail.
@@ -196,7 +291,7 @@ fn first_modulus(
     plan: u8,
     d: usize,
     runs: &[i16],
-    sizes: &[usize],
+    shape: &[usize],
     top: usize,
     low: u16,
     high: u16,
@@ -204,13 +299,13 @@ fn first_modulus(
     products: &mut [u16],
     owners: &mut [u16],
 ) -> u16
-    requires { ⌜ Levels plan d top (now runs) (now sizes) ⌝ }
+    requires { ⌜ Levels plan d top (now runs) (now shape) ⌝ }
     requires { ⌜ (1 ≤ low) × (high ≤ 8192) × (length (now z) ≡ d) × (length (now products) ≡ 3072) × (length (now owners) ≡ 8192) ⌝ }
-    ensures { λ r. ⌜ Ascended plan d (searched d (now (runs .entry)) (now (sizes .entry))) low high (now (z .exit)) r ⌝ }
+    ensures { λ r. ⌜ Ascended plan d (searched d (now (runs .entry)) (now (shape .entry))) low high (now (z .exit)) r ⌝ }
 {
     let mut n = low;
     while n <= high {
-        if first_vector(plan, d, runs, sizes, top, n, z, products, owners) {
+        if first_vector(plan, d, runs, shape, top, n, z, products, owners) {
             return n;
         }
         n += 1;
@@ -230,22 +325,30 @@ fn copy(to: &mut [u16], from: &[u16])
 
 // The first plan among the moduli from low to high for a valid list. The vector is built in an array of its own, so that the
 // lent places are written only where there is a plan.
-pub fn first_plan(plan: u8, d: usize, rows: &[i16], low: u16, high: u16, z: &mut [u16]) -> Plan
+pub(crate) fn first_plan(
+    plan: u8,
+    d: usize,
+    rows: &[i16],
+    low: u16,
+    high: u16,
+    z: &mut [u16],
+) -> Plan
     requires { ⌜ (plan ≤ 4) × ValidList plan d (now rows) × (1 ≤ low) × (high ≤ 8192) × (length (now z) ≡ d) ⌝ }
     ensures { λ r. ⌜ PlanBetween plan d (indexList d (now (rows .entry))) low high (now (z .entry)) (now (z .exit)) r ⌝ }
 {
     let mut runs = [0i16; 21504];
-    let mut sizes = [0usize; 7];
+    let mut shape = [0usize; 43];
     let mut products = [0u16; 3072];
     let mut owners = [0u16; 8192];
     let mut x = [0u16; 6];
     let top = largest(rows);
-    set_levels(plan, d, rows, top, &mut runs, &mut sizes);
+    set_swaps(d, rows, &mut shape);
+    set_levels(plan, d, rows, top, &mut runs, &mut shape);
     let n = first_modulus(
         plan,
         d,
         &runs,
-        &sizes,
+        &shape,
         top,
         low,
         high,

@@ -55,7 +55,7 @@ fn entry_of(plan: u8, row: &[i16], z: &[u16], n: u16, products: &[u16]) -> Entry
 }
 
 // The map: for each row its residue and then its c.
-pub fn write_map(
+pub(crate) fn write_map(
     plan: u8,
     d: usize,
     rows: &[i16],
@@ -103,7 +103,7 @@ fn long(x: i32) -> i64
 }
 
 // Spreading: the n sums.
-pub fn write_sums(
+pub(crate) fn write_sums(
     plan: u8,
     d: usize,
     rows: &[i16],
@@ -154,7 +154,7 @@ fn quotient_of(s: i64, c: u16) -> i32
 }
 
 // Condition 11 does not apply: the sum of each row is a multiple of its c, and the quotient has 32 bits.
-pub fn all_gather(
+pub(crate) fn all_gather(
     plan: u8,
     d: usize,
     rows: &[i16],
@@ -178,7 +178,7 @@ pub fn all_gather(
 }
 
 // Gathering, where all rows pass: each row's term.
-pub fn write_terms(
+pub(crate) fn write_terms(
     plan: u8,
     d: usize,
     rows: &[i16],

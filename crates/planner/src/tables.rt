@@ -1,13 +1,13 @@
 // What map, spread, gather and point list refuse.
 
+use crate::points::line_count;
+use crate::rule::admits;
 use refusal::axes_refusal;
 use refusal::list_pair_refusal;
 use refusal::map_plan_refusal;
 use refusal::pair_refusal;
 use refusal::places_refusal;
 use refusal::plan_refusal;
-use crate::points::line_count;
-use crate::rule::admits;
 ghost use mathlib.Core.Path.{_≡_};
 ghost use Prim.Native.Nat.{_≤_};
 ghost use Rattle.rank1.specs.Index.{indexList};
@@ -35,7 +35,7 @@ fn table_refusal(plan: u8, d: usize, rows: &[i16], n: u16, z: &[u16]) -> u8
 }
 
 // What the map refuses, with the places lent for it.
-pub fn map_refusal(plan: u8, d: usize, rows: &[i16], n: u16, z: &[u16], places: usize) -> u8
+pub(crate) fn map_refusal(plan: u8, d: usize, rows: &[i16], n: u16, z: &[u16], places: usize) -> u8
     ensures { λ r. ⌜ r ≡ mapRefusal plan d (now (rows .entry)) n (now (z .entry)) places ⌝ }
 {
     let refused = table_refusal(plan, d, rows, n, z);
@@ -50,7 +50,7 @@ pub fn map_refusal(plan: u8, d: usize, rows: &[i16], n: u16, z: &[u16], places: 
 }
 
 // What spreading refuses, with as many terms and sums lent; and gathering, before it looks at the sums.
-pub fn spread_refusal(
+pub(crate) fn spread_refusal(
     plan: u8,
     d: usize,
     rows: &[i16],
@@ -77,7 +77,7 @@ pub fn spread_refusal(
 }
 
 // What the point list refuses, with the places lent for it.
-pub fn point_refusal(plan: u8, d: usize, n: u16, z: &[u16], places: usize) -> u8
+pub(crate) fn point_refusal(plan: u8, d: usize, n: u16, z: &[u16], places: usize) -> u8
     ensures { λ r. ⌜ r ≡ pointRefusal plan d n (now (z .entry)) places ⌝ }
 {
     let named = plan_refusal(plan);

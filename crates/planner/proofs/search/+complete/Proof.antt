@@ -34,11 +34,11 @@ abbrev calls : ℕ → complete-lts.Claims
 calls t = (try-component-reads.Asked, try-component-reads.Learnt, complete-below t, complete.Post)
 
 abbrev complete-Inv-loop : complete-lts.InvT-loop
-complete-Inv-loop plan d runs sizes top n at z₀ products₀ owners₀ v₀ z products owners v =
-    Passed plan d (searched d runs sizes) n at z₀ products₀ owners₀ z products owners v
+complete-Inv-loop plan d runs shape top n at z₀ products₀ owners₀ v₀ z products owners v =
+    Passed plan d (searched d runs shape) n at z₀ products₀ owners₀ z products owners v
 
 abbrev complete-μ-loop : complete-lts.MeasureT-loop
-complete-μ-loop plan d runs sizes top n at z₀ products₀ owners₀ v₀ z products owners v = n - v
+complete-μ-loop plan d runs shape top n at z₀ products₀ owners₀ v₀ z products owners v = n - v
 
 -- where a turn begins the component is one of the vector's
 within : (t : ℕ) (c : complete-lts.Else1 (calls t) (complete-at t) complete.Post complete-Inv-loop complete-μ-loop) → c .before .before .before .before .before .args .at < c .before .before .before .before .before .args .d
@@ -90,7 +90,7 @@ complete-returns-2 t c =
     let else = in-loop .before .before in
     let start = else .before .before .before .before .before in (
       found (in-loop .before .loop .inv) (in-loop .loop-test .taken) (inside t else) (tried .ensures .stored) (done .last .1 .1 .1 .1 .1 .1 .1 .0)
-          (subst (λ (r : Bool). Completed (start .args .plan) (start .args .d) (searched (start .args .d) (start .args .runs .now) (start .args .sizes .now)) (start .args .n) (start .args .at + 1) (tried .last .1 .1 .1 .1 .1 .1 .1 .1 .0) (done .last .1 .1 .1 .1 .1 .1 .1 .0) r) (c .if3 .taken) (done .ensures .0)),
+          (subst (λ (r : Bool). Completed (start .args .plan) (start .args .d) (searched (start .args .d) (start .args .runs .now) (start .args .shape .now)) (start .args .n) (start .args .at + 1) (tried .last .1 .1 .1 .1 .1 .1 .1 .1 .0) (done .last .1 .1 .1 .1 .1 .1 .1 .0) r) (c .if3 .taken) (done .ensures .0)),
       λ i l. done .ensures .1 i (omega arith) ∙ tried .ensures .kept i l ∙ in-loop .before .loop .inv .table i l,
     )
 

@@ -10,11 +10,11 @@ use Rattle.planner.proofs.search.first_modulus.Statement.{statement}
 use Rattle.planner.proofs.search.first_modulus.Tie as tie
 
 abbrev Inv-loop : tie.InvT-loop
-Inv-loop plan d runs sizes top low high z₀ products₀ owners₀ n₀ z products owners n =
-    Ascending plan d (searched d runs sizes) low n z₀ products₀ owners₀ z products owners
+Inv-loop plan d runs shape top low high z₀ products₀ owners₀ n₀ z products owners n =
+    Ascending plan d (searched d runs shape) low n z₀ products₀ owners₀ z products owners
 
 abbrev μ-loop : tie.MeasureT-loop
-μ-loop plan d runs sizes top low high z₀ products₀ owners₀ n₀ z products owners n = suc high - n
+μ-loop plan d runs shape top low high z₀ products₀ owners₀ n₀ z products owners n = suc high - n
 
 loop-holds : tie.Need-loop-holds Inv-loop μ-loop
 loop-holds c = ascend-none _ _ _ _ _ _ _

@@ -1,5 +1,5 @@
 -- `planner::search::first_plan` meets its contract. The levels begin as zeros, so no number in them is larger than the list's
--- largest; the vector is built in the first d of six places, which the call of `first_modulus` leaves in front of the others.
+-- largest, and no axes are marked; the vector is built in the first d of six places, which the call of `first_modulus` leaves in front of the others.
 use mathlib.Core.Path.{_≡_, refl, sym, ap, _∙_, subst}
 use mathlib.Core.List.{List, _++_}
 use Prim.Native.Nat.{ℕ}
@@ -10,6 +10,7 @@ use lib.Seq.{length-take-le, length-front, take-at}
 use Rattle.rank1.specs.Index.{indexList}
 use Rattle.planner.specs.Stage.{Ascended}
 use Rattle.planner.proofs.PlanLaws.{covered-zeros, ascended-none, ascended-found}
+use Rattle.planner.proofs.SwapSteps.{swaps-none}
 use Rattle.planner.proofs.search.first_plan.Statement.{statement}
 use Rattle.planner.proofs.search.first_plan.Tie as tie
 
@@ -19,7 +20,7 @@ six = replicate 6 0
 
 -- the function's entry, as `first_modulus` is called
 abbrev start-of : tie.After-owners → tie.Start
-start-of c = c .before .before .before .before .before .before .before .before .before .before .before .before
+start-of c = c .before .before .before .before .before .before .before .before .before .before .before .before .before .before .before
 
 -- d of the six places are lent
 front-size : (c : tie.After-owners) → length (take (start-of c .args .d) six) ≡ start-of c .args .d
@@ -50,6 +51,15 @@ searched-list c =
 largest-requires : tie.Need-largest-requires
 largest-requires c κs = search needs
 
+slice-aggregate-set-swaps : tie.Need-slice-aggregate-set-swaps
+slice-aggregate-set-swaps c = search needs
+
+set-swaps-requires : tie.Need-set-swaps-requires
+set-swaps-requires c κs =
+    let s = c .before .before .before in
+    let list = s .pre .1 in
+    (list .some-axes, list .few-axes, list .whole, refl, swaps-none (s .args .d) (indexList (s .args .d) (s .args .rows .now)) (list .few-axes))
+
 slice-aggregate-set-levels : tie.Need-slice-aggregate-set-levels
 slice-aggregate-set-levels c = search needs
 
@@ -58,9 +68,10 @@ slice-aggregate-set-levels-2 c = search needs
 
 set-levels-requires : tie.Need-set-levels-requires
 set-levels-requires c κs =
-    let top = c .before .before .largest in
-    let pre = c .before .before .before .before .pre in
-    (pre .0, pre .1, top .ensures, covered-zeros (top .result) 21504 (top .ensures .narrow), refl, refl)
+    let swaps = c .before .before .before .set-swaps in
+    let top = c .before .before .before .before .before .largest in
+    let pre = c .before .before .before .before .before .before .before .pre in
+    (pre .0, pre .1, top .ensures, covered-zeros (top .result) 21504 (top .ensures .narrow), refl, swaps .kept .1 .1 .0, swaps .ensures)
 
 slice-aggregate-first-modulus : tie.Need-slice-aggregate-first-modulus
 slice-aggregate-first-modulus c = search needs
@@ -73,7 +84,7 @@ array-borrow-prefix-x c = search needs
 
 slice-aggregate-first-modulus-3 : tie.Need-slice-aggregate-first-modulus-3
 slice-aggregate-first-modulus-3 c =
-    let s = c .before .before .before .before .before .before .before .before .before .before in
+    let s = c .before .before .before .before .before .before .before .before .before .before .before .before .before in
     sym (length-take-le (s .args .d) six (s .pre .1 .few-axes))
 
 slice-aggregate-first-modulus-4 : tie.Need-slice-aggregate-first-modulus-4
@@ -123,6 +134,8 @@ first-plan-spec =
     tie.close
     (tie.spec
     largest-requires
+    slice-aggregate-set-swaps
+    set-swaps-requires
     slice-aggregate-set-levels
     slice-aggregate-set-levels-2
     set-levels-requires

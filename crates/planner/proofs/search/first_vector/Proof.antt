@@ -11,7 +11,7 @@ mul-if2 : tie.Need-mul-if2
 mul-if2 c = search needs
 
 -- nothing is fixed at entry
-at-entry : (c : tie.Start) → Stage (c .args .plan) (c .args .d) (c .args .top) (c .args .runs .now) (c .args .sizes .now) (c .args .n) 0 (c .args .z .now) (c .args .products .now) (c .args .owners .now)
+at-entry : (c : tie.Start) → Stage (c .args .plan) (c .args .d) (c .args .top) (c .args .runs .now) (c .args .shape .now) (c .args .n) 0 (c .args .z .now) (c .args .products .now) (c .args .owners .now)
 at-entry c = stage-none (c .pre .0) _ _ _ _ (c .pre .1 .0) (c .pre .1 .1) (c .pre .1 .2) (c .pre .1 .3)
 
 shared-slice-read-if2 : tie.Need-shared-slice-read-if2

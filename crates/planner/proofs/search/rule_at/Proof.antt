@@ -13,10 +13,10 @@ use Rattle.planner.proofs.search.rule_at.Statement.{statement}
 use Rattle.planner.proofs.search.rule_at.Tie as tie
 
 -- the part of the runs that is lent is the level
-lent : (runs : List ℤ) (sizes : List ℕ) (k : ℕ) → take (k * 3072 + getD sizes k 0 - k * 3072) (drop (k * 3072) runs) ≡ levelRun runs sizes k
-lent runs sizes k = ap (λ (m : ℕ). take m (drop (k * 3072) runs)) count
+lent : (runs : List ℤ) (shape : List ℕ) (k : ℕ) → take (k * 3072 + getD shape k 0 - k * 3072) (drop (k * 3072) runs) ≡ levelRun runs shape k
+lent runs shape k = ap (λ (m : ℕ). take m (drop (k * 3072) runs)) count
   where
-    count : k * 3072 + getD sizes k 0 - k * 3072 ≡ getD sizes k 0
+    count : k * 3072 + getD shape k 0 - k * 3072 ≡ getD shape k 0
     count = omega arith
 
 mul-a : tie.Need-mul-a
@@ -55,7 +55,7 @@ slice-aggregate-rule-holds c =
 rule-holds-requires : tie.Need-rule-holds-requires
 rule-holds-requires c κs =
     let start = c .before .before .before .before .before .before .before .before in
-    let is = lent (start .args .runs .now) (start .args .sizes .now) (start .args .at) in
+    let is = lent (start .args .runs .now) (start .args .shape .now) (start .args .at) in
     (stage-ready (start .pre) _ is, ((start .pre .levels .plans, start .pre .owner-room), stage-unsigned (start .pre) _ is))
 
 same-length : tie.Need-same-length
@@ -64,7 +64,7 @@ same-length c = search needs
 returns : tie.Need-returns
 returns c =
     let start = c .before .before .before .before .before .before .before .before .before .before .before in
-    stage-decides (start .pre) _ (lent (start .args .runs .now) (start .args .sizes .now) (start .args .at)) _ (c .before .before .rule-holds .ensures)
+    stage-decides (start .pre) _ (lent (start .args .runs .now) (start .args .shape .now) (start .args .at)) _ (c .before .before .rule-holds .ensures)
 
 pub rule-at-spec : {M : Type 1} → statement M
 rule-at-spec =

@@ -8,10 +8,10 @@ use Rattle.planner.proofs.search.set_levels.Statement.{statement}
 use Rattle.planner.proofs.search.set_levels.Tie as tie
 
 abbrev Inv-loop : tie.InvT-loop
-Inv-loop plan d rows top runs₀ sizes₀ j₀ j-end runs sizes j = (j ≤ d + 1) × (j-end ≡ d + 1) × LevelsTo d top j rows runs sizes
+Inv-loop plan d rows top runs₀ shape₀ j₀ j-end runs shape j = (j ≤ d + 1) × (j-end ≡ d + 1) × LevelsTo d top j rows runs shape
 
 abbrev μ-loop : tie.MeasureT-loop
-μ-loop plan d rows top runs₀ sizes₀ j₀ j-end runs sizes j = d + 1 - j
+μ-loop plan d rows top runs₀ shape₀ j₀ j-end runs shape j = d + 1 - j
 
 add-j-end : tie.Need-add-j-end Inv-loop μ-loop
 add-j-end c = search needs
@@ -19,7 +19,7 @@ add-j-end c = search needs
 loop-holds : tie.Need-loop-holds Inv-loop μ-loop
 loop-holds c =
     let s = c .before in
-    (zero-le, refl, levels-none (s .args .d) (s .args .top) (s .args .rows .now) (s .args .runs .now) (s .args .sizes .now) (s .pre .5) (s .pre .4) (s .pre .3))
+    (zero-le, refl, levels-none (s .args .d) (s .args .top) (s .args .rows .now) (s .args .runs .now) (s .args .shape .now) (s .pre .5) (s .pre .6) (s .pre .4) (s .pre .3))
 
 mul-a : tie.Need-mul-a Inv-loop μ-loop
 mul-a c = search needs
@@ -51,11 +51,11 @@ keep-ending-requires c κs =
       omega (arith, valid-size (s .args .plan) (s .args .d) (s .args .rows .now) v, part-size (l .j) (l .j * 3072 + 3072 - l .j * 3072) (l .runs) e (omega (arith, v .few-axes)) (l .inv .2 .long)),
     )
 
-mul-sizes : tie.Need-mul-sizes Inv-loop μ-loop
-mul-sizes c = search needs
+mul-shape : tie.Need-mul-shape Inv-loop μ-loop
+mul-shape c = search needs
 
-slice-write-sizes : tie.Need-slice-write-sizes Inv-loop μ-loop
-slice-write-sizes c = search needs
+slice-write-shape : tie.Need-slice-write-shape Inv-loop μ-loop
+slice-write-shape c = search needs
 
 add-j : tie.Need-add-j Inv-loop μ-loop
 add-j c = search needs
@@ -71,7 +71,7 @@ loop-again c =
     let e : l .j * 3072 + 3072 - l .j * 3072 ≡ 3072 = omega arith in (
       omega arith,
       refl,
-      levels-more (s .args .d) (s .args .top) (l .j) (s .args .rows .now) (l .runs) (l .sizes) (l .j * 3072 + 3072 - l .j * 3072) (c .before .keep-ending .result) (c .before .keep-ending .last .1 .1 .1 .0) e (omega (arith, v .few-axes)) (valid-size (s .args .plan) (s .args .d) (s .args .rows .now) v) (s .pre .2) (c .before .keep-ending .kept .1 .1 .1 .0) (c .before .keep-ending .ensures) (l .inv .2),
+      levels-more (s .args .d) (s .args .top) (l .j) (s .args .rows .now) (l .runs) (l .shape) (l .j * 3072 + 3072 - l .j * 3072) (c .before .keep-ending .result) (c .before .keep-ending .last .1 .1 .1 .0) e (omega (arith, v .few-axes)) (valid-size (s .args .plan) (s .args .d) (s .args .rows .now) v) (s .pre .2) (c .before .keep-ending .kept .1 .1 .1 .0) (c .before .keep-ending .ensures) (l .inv .2),
     )
 
 same-length : tie.Need-same-length Inv-loop μ-loop
@@ -84,7 +84,7 @@ returns : tie.Need-returns Inv-loop μ-loop
 returns c =
     let s = c .before .before .before in
     let l = c .before .loop in
-    levels-all (s .args .plan) (s .args .d) (s .args .top) (l .j) (s .args .rows .now) (l .runs) (l .sizes) (omega arith) (s .pre .0) (s .pre .1) (l .inv .2)
+    levels-all (s .args .plan) (s .args .d) (s .args .top) (l .j) (s .args .rows .now) (l .runs) (l .shape) (omega arith) (s .pre .0) (s .pre .1) (l .inv .2)
 
 pub set-levels-spec : {M : Type 1} → statement M
 set-levels-spec =
@@ -101,8 +101,8 @@ set-levels-spec =
     part-keep-ending-start
     part-keep-ending-end
     keep-ending-requires
-    mul-sizes
-    slice-write-sizes
+    mul-shape
+    slice-write-shape
     add-j
     loop-less
     loop-again

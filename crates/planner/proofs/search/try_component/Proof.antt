@@ -1,11 +1,12 @@
--- `planner::search::try_component` meets its contract. No first vector begins so where the first component neither is 0 nor
--- divides n (lead-fails), or where the rule fails on the rows that end there (fine-fails).
-use mathlib.Core.Path.{refl, sym, _∙_}
+-- `planner::search::try_component` meets its contract. No first vector begins so where the value is ruled out
+-- (ruled-out-fails), or where the rule fails on the rows that end there (fine-fails).
+use mathlib.Core.Path.{refl}
 use native.Mathlib.Omega.{arith}
 use borrow.Author.Needs.{needs}
-use borrow.Author.Tests.{not-true}
+use lib.ListN.{length-set}
 use lib.Seq.{getD-set-same}
-use Rattle.planner.proofs.SearchSteps.{false-true, stage-more, stage-owners, fine-fails, lead-fails}
+use Rattle.planner.proofs.SearchSteps.{false-true, stage-more, stage-owners, fine-fails}
+use Rattle.planner.proofs.SwapSteps.{ruled-out-fails}
 use Rattle.planner.proofs.search.try_component.Statement.{statement}
 use Rattle.planner.proofs.search.try_component.Tie as tie
 
@@ -15,8 +16,14 @@ mul-z c = search needs
 slice-write-z : tie.Need-slice-write-z
 slice-write-z c = search needs
 
-can-lead-requires : tie.Need-can-lead-requires
-can-lead-requires c κs = search needs
+ruled-out-requires : tie.Need-ruled-out-requires
+ruled-out-requires c κs =
+    let start = c .before .before .before .before .before in (
+      start .pre .0 .levels .tall,
+      omega (arith, start .pre .0 .levels .few-axes, start .pre .1),
+      omega (arith, length-set (start .args .z .now) (start .args .at) (start .args .v), start .pre .0 .size, start .pre .1),
+      omega (arith, start .pre .0 .modulus, start .pre .1),
+    )
 
 same-length : tie.Need-same-length
 same-length c = search needs
@@ -30,9 +37,9 @@ returns c =
       stage = false-true;
       fine = false-true;
       none = λ _.
-          lead-fails _ _ _ _ _ _ _ (start .pre .0 .modulus .low) (start .pre .0 .levels .some-axes) (c .before .before .if1 .taken)
+          ruled-out-fails (start .pre .0 .levels) (start .pre .0 .modulus .low) (start .pre .1 .0) _
           (getD-set-same (start .args .z .now) (start .args .at) (start .args .v) 0 (omega (arith, start .pre)))
-          (sym (c .before .can-lead .ensures) ∙ not-true _ (c .if2 .taken));
+          (c .before .ruled-out .ensures (c .if1 .taken));
     }
 
 set-axis-requires : tie.Need-set-axis-requires
@@ -44,7 +51,7 @@ add-rule-at c = search needs
 rule-at-requires : tie.Need-rule-at-requires
 rule-at-requires c κs =
     let call = c .before .before .before .before .before .set-axis in
-    let start = c .before .before .before .before .before .before .before .before .before .before .before .before in
+    let start = c .before .before .before .before .before .before .before .before .before .before .before .before .before .before in
     stage-more (start .pre .0) (start .pre .1 .0) (start .pre .1 .1) (call .ensures)
 
 same-length-2 : tie.Need-same-length-2
@@ -60,7 +67,7 @@ returns-2 : tie.Need-returns-2
 returns-2 c =
     let rule = c .before .before .rule-at in
     let call = c .before .before .before .before .before .before .before .before .set-axis in
-    let start = c .before .before .before .before .before .before .before .before .before .before .before .before .before .before .before in
+    let start = c .before .before .before .before .before .before .before .before .before .before .before .before .before .before .before .before .before in
     let stage = stage-more (start .pre .0) (start .pre .1 .0) (start .pre .1 .1) (call .ensures) in
     record {
       stored = refl;
@@ -76,7 +83,7 @@ try-component-spec =
     (tie.spec
     mul-z
     slice-write-z
-    can-lead-requires
+    ruled-out-requires
     same-length
     returns
     set-axis-requires
