@@ -1,0 +1,43 @@
+/*
+ * Document 01's printed example through the header: cosine plan C, rows 0, 1, 2, ceiling 10. It prints the plan and the map as the
+ * program `plan` does, then a request that is refused: plan 0, row 6, ceiling 3.
+ */
+#include <inttypes.h>
+#include <stdio.h>
+
+#include "planner.h"
+
+enum { AXES = 1, ROWS = 3 };
+
+int main(void)
+{
+    const int16_t rows[ROWS * AXES] = {0, 1, 2};
+    uint16_t n;
+    uint16_t z[AXES];
+    uint16_t map[2 * ROWS];
+
+    uint8_t refused = planner_search_smallest(4, AXES, rows, ROWS * AXES, 10, z, AXES, &n);
+    if (refused == 0) {
+        refused = planner_residue_map(4, AXES, rows, ROWS * AXES, n, z, AXES, map, 2 * ROWS);
+    }
+    if (refused != 0) {
+        printf("refused %" PRIu8 "\n", refused);
+        return 1;
+    }
+    printf("%" PRIu16, n);
+    for (size_t j = 0; j < AXES; j++) {
+        printf(" %" PRIu16, z[j]);
+    }
+    printf("\n");
+    for (size_t i = 0; i < ROWS; i++) {
+        printf("%" PRIu16 " %" PRIu16 "\n", map[2 * i], map[2 * i + 1]);
+    }
+
+    /* refused: n and z keep what they hold */
+    const int16_t six[1] = {6};
+    uint16_t n_before = n;
+    uint16_t z_before = z[0];
+    refused = planner_search_smallest(0, 1, six, 1, 3, z, 1, &n);
+    printf("refused %" PRIu8 "\n", refused);
+    return n == n_before && z[0] == z_before ? 0 : 1;
+}

@@ -1,0 +1,279 @@
+//! Rank-1 lattices that keep the terms of a list apart.
+//!
+//! A list is rows of `d` whole numbers, given as one slice with the rows one after the other. A plan is a modulus n and a
+//! generating vector z of d components from 0 to n - 1. A row's residue is that of its product with z at n, and a [`Rule`] says
+//! which rows may not share one. A row's mirrors are the different rows got by changing signs of its components; for
+//! [`Rule::Fourier`] the row is its only one.
+//!
+//! The functions are those of a library that is proved to meet document 01 of the planner; this crate links it and adds nothing to
+//! the answers. No argument makes a call panic: wrong ones are answered with a [`Refusal`], and then nothing lent is written.
+//!
+//! ```
+//! use planner::{gather, residue_map, search_smallest, spread, Entry, Plan, Refusal, Rule};
+//!
+//! // three rows over one axis: 0, 1 and 2
+//! let rows = [0, 1, 2];
+//! let plan = search_smallest(Rule::CosineC, 1, &rows, 10)?;
+//! assert_eq!(plan, Plan { n: 4, z: vec![1] });
+//!
+//! let map = residue_map(Rule::CosineC, 1, &rows, plan.n, &plan.z)?;
+//! assert_eq!(map[2], Entry { residue: 2, copies: 2 });
+//!
+//! let sums = spread(Rule::CosineC, 1, &rows, plan.n, &plan.z, &[5, -3, 2])?;
+//! assert_eq!(sums, [5, -3, 4, -3]);
+//! assert_eq!(gather(Rule::CosineC, 1, &rows, plan.n, &plan.z, &sums)?, [5, -3, 2]);
+//!
+//! assert_eq!(search_smallest(Rule::ExactIntegration, 1, &[6], 3), Err(Refusal::NothingAdmissible));
+//! # Ok::<(), Refusal>(())
+//! ```
+
+mod refusal;
+pub mod sys;
+
+pub use refusal::Refusal;
+
+/// The largest number of axes.
+pub const MOST_AXES: usize = 6;
+/// The largest number of rows.
+pub const MOST_ROWS: usize = 512;
+/// The largest modulus, and the largest ceiling.
+pub const MOST_MODULUS: u16 = 8192;
+
+/// What a plan has to keep apart.
+#[derive(Clone, Copy, Debug, PartialEq, Eq, Hash)]
+#[repr(u8)]
+pub enum Rule {
+    /// No row other than the zero row has residue 0. It has no map, no sums and no terms.
+    ExactIntegration = 0,
+    /// Different rows have different residues.
+    Fourier = 1,
+    /// Plan A: different mirrors of all rows have different residues.
+    CosineA = 2,
+    /// Plan B: a row's residue is that of no other mirror, of the row itself or of another.
+    CosineB = 3,
+    /// Plan C: a row's residue is that of no mirror of another row.
+    CosineC = 4,
+}
+
+impl Rule {
+    /// All of them, in the order of their numbers.
+    pub const ALL: [Rule; 5] = [Rule::ExactIntegration, Rule::Fourier, Rule::CosineA, Rule::CosineB, Rule::CosineC];
+}
+
+impl TryFrom<u8> for Rule {
+    type Error = Refusal;
+
+    /// The rule of the plan number 0 to 4.
+    fn try_from(number: u8) -> Result<Rule, Refusal> {
+        Rule::ALL.get(usize::from(number)).copied().ok_or(Refusal::Plan)
+    }
+}
+
+/// A plan that a search found.
+#[derive(Clone, Debug, PartialEq, Eq, Hash)]
+pub struct Plan {
+    /// The modulus.
+    pub n: u16,
+    /// The generating vector.
+    pub z: Vec<u16>,
+}
+
+/// What the map says of a row.
+#[derive(Clone, Copy, Debug, PartialEq, Eq, Hash)]
+pub struct Entry {
+    /// The row's residue.
+    pub residue: u16,
+    /// How many of its mirrors have this residue, the row among them.
+    pub copies: u16,
+}
+
+/// Whether the pair n, z is admissible: meets the rule for the list. Refusals: 1 to 7.
+///
+/// ```
+/// use planner::{check, Rule};
+/// assert_eq!(check(Rule::Fourier, 1, &[0, 1, 2], 3, &[1]), Ok(true));
+/// assert_eq!(check(Rule::CosineA, 1, &[0, 1, 2], 3, &[1]), Ok(false));
+/// ```
+pub fn check(rule: Rule, d: usize, rows: &[i16], n: u16, z: &[u16]) -> Result<bool, Refusal> {
+    let mut yes = 0;
+    // SAFETY: the pointers and lengths are those of slices, and `yes` is a local of our own.
+    let number =
+        unsafe { sys::planner_check(rule as u8, d, rows.as_ptr(), rows.len(), n, z.as_ptr(), z.len(), &mut yes) };
+    Refusal::told(number).map(|()| yes == 1)
+}
+
+/// The map: for each row its residue and copies. Refusals: 1 to 7 and 10.
+pub fn residue_map(rule: Rule, d: usize, rows: &[i16], n: u16, z: &[u16]) -> Result<Vec<Entry>, Refusal> {
+    let mut out = vec![0; 2 * row_count(d, rows)];
+    residue_map_into(rule, d, rows, n, z, &mut out)?;
+    Ok(out.chunks_exact(2).map(|pair| Entry { residue: pair[0], copies: pair[1] }).collect())
+}
+
+/// The map, written to two places for each row: its residue and then its copies. Refusals: 1 to 8 and 10.
+pub fn residue_map_into(rule: Rule, d: usize, rows: &[i16], n: u16, z: &[u16], out: &mut [u16]) -> Result<(), Refusal> {
+    // SAFETY: the pointers and lengths are those of slices, and `out` is lent to us alone.
+    Refusal::told(unsafe {
+        sys::planner_residue_map(
+            rule as u8,
+            d,
+            rows.as_ptr(),
+            rows.len(),
+            n,
+            z.as_ptr(),
+            z.len(),
+            out.as_mut_ptr(),
+            out.len(),
+        )
+    })
+}
+
+/// Spreading: the sum at each residue 0 to n - 1, of a row's term once for each of its mirrors that has the residue. There is one
+/// term for each row. Refusals: 1 to 8 and 10.
+pub fn spread(rule: Rule, d: usize, rows: &[i16], n: u16, z: &[u16], terms: &[i32]) -> Result<Vec<i64>, Refusal> {
+    let mut sums = vec![0; usize::from(n)];
+    spread_into(rule, d, rows, n, z, terms, &mut sums)?;
+    Ok(sums)
+}
+
+/// Spreading, to n lent places. Refusals: 1 to 8 and 10.
+pub fn spread_into(
+    rule: Rule,
+    d: usize,
+    rows: &[i16],
+    n: u16,
+    z: &[u16],
+    terms: &[i32],
+    sums: &mut [i64],
+) -> Result<(), Refusal> {
+    // SAFETY: the pointers and lengths are those of slices, and `sums` is lent to us alone.
+    Refusal::told(unsafe {
+        sys::planner_spread(
+            rule as u8,
+            d,
+            rows.as_ptr(),
+            rows.len(),
+            n,
+            z.as_ptr(),
+            z.len(),
+            terms.as_ptr(),
+            terms.len(),
+            sums.as_mut_ptr(),
+            sums.len(),
+        )
+    })
+}
+
+/// Gathering: for each row the sum at its residue, divided by its copies. It gives spread terms back. There are n sums.
+/// Refusals: 1 to 8, 10 and 11.
+pub fn gather(rule: Rule, d: usize, rows: &[i16], n: u16, z: &[u16], sums: &[i64]) -> Result<Vec<i32>, Refusal> {
+    let mut terms = vec![0; row_count(d, rows)];
+    gather_into(rule, d, rows, n, z, sums, &mut terms)?;
+    Ok(terms)
+}
+
+/// Gathering, to one lent place for each row. Refusals: 1 to 8, 10 and 11.
+pub fn gather_into(
+    rule: Rule,
+    d: usize,
+    rows: &[i16],
+    n: u16,
+    z: &[u16],
+    sums: &[i64],
+    terms: &mut [i32],
+) -> Result<(), Refusal> {
+    // SAFETY: the pointers and lengths are those of slices, and `terms` is lent to us alone.
+    Refusal::told(unsafe {
+        sys::planner_gather(
+            rule as u8,
+            d,
+            rows.as_ptr(),
+            rows.len(),
+            n,
+            z.as_ptr(),
+            z.len(),
+            sums.as_ptr(),
+            sums.len(),
+            terms.as_mut_ptr(),
+            terms.len(),
+        )
+    })
+}
+
+/// The cutting list: n lines of d numbers, one after the other. Line i has for each axis the residue of i times the component of z;
+/// for the cosine rules the tent numerator of that residue r, the smaller of 2r and 2n - 2r. Refusals: 1, 2, 6 and 7.
+///
+/// ```
+/// use planner::{point_list, Rule};
+/// assert_eq!(point_list(Rule::Fourier, 2, 5, &[1, 2])?[6..8], [3, 1]);
+/// assert_eq!(point_list(Rule::CosineA, 2, 5, &[1, 2])?[6..8], [4, 2]);
+/// # Ok::<(), planner::Refusal>(())
+/// ```
+pub fn point_list(rule: Rule, d: usize, n: u16, z: &[u16]) -> Result<Vec<u16>, Refusal> {
+    let mut out = vec![0; usize::from(n) * d.min(MOST_AXES)];
+    point_list_into(rule, d, n, z, &mut out)?;
+    Ok(out)
+}
+
+/// The cutting list, to n * d lent places. Refusals: 1, 2, 6, 7 and 8.
+pub fn point_list_into(rule: Rule, d: usize, n: u16, z: &[u16], out: &mut [u16]) -> Result<(), Refusal> {
+    // SAFETY: the pointers and lengths are those of slices, and `out` is lent to us alone.
+    Refusal::told(unsafe {
+        sys::planner_point_list(rule as u8, d, n, z.as_ptr(), z.len(), out.as_mut_ptr(), out.len())
+    })
+}
+
+/// The first admissible vector at n in dictionary order, the first component most significant. Refusals: 1 to 6 and 9.
+///
+/// ```
+/// use planner::{search_vector, Refusal, Rule};
+/// assert_eq!(search_vector(Rule::ExactIntegration, 1, &[6], 5)?.z, [1]);
+/// assert_eq!(search_vector(Rule::ExactIntegration, 1, &[6], 6), Err(Refusal::NothingAdmissible));
+/// # Ok::<(), Refusal>(())
+/// ```
+pub fn search_vector(rule: Rule, d: usize, rows: &[i16], n: u16) -> Result<Plan, Refusal> {
+    let mut z = vec![0; d.min(MOST_AXES)];
+    let n = search_vector_into(rule, d, rows, n, &mut z)?;
+    Ok(Plan { n, z })
+}
+
+/// The vector search, to d lent places; it answers with n. Refusals: 1 to 6, 8 and 9.
+pub fn search_vector_into(rule: Rule, d: usize, rows: &[i16], n: u16, z: &mut [u16]) -> Result<u16, Refusal> {
+    let mut found = 0;
+    // SAFETY: the pointers and lengths are those of slices, `z` is lent to us alone, and `found` is a local of our own.
+    let number = unsafe {
+        sys::planner_search_vector(rule as u8, d, rows.as_ptr(), rows.len(), n, z.as_mut_ptr(), z.len(), &mut found)
+    };
+    Refusal::told(number).map(|()| found)
+}
+
+/// The smallest modulus from 1 to the ceiling that has an admissible vector, and the first such vector in dictionary order.
+/// Refusals: 1 to 6 and 9. It may take long for long lists: the ceiling bounds the moduli that it tries.
+pub fn search_smallest(rule: Rule, d: usize, rows: &[i16], ceiling: u16) -> Result<Plan, Refusal> {
+    let mut z = vec![0; d.min(MOST_AXES)];
+    let n = search_smallest_into(rule, d, rows, ceiling, &mut z)?;
+    Ok(Plan { n, z })
+}
+
+/// The smallest plan, its vector to d lent places; it answers with the modulus. Refusals: 1 to 6, 8 and 9.
+pub fn search_smallest_into(rule: Rule, d: usize, rows: &[i16], ceiling: u16, z: &mut [u16]) -> Result<u16, Refusal> {
+    let mut found = 0;
+    // SAFETY: the pointers and lengths are those of slices, `z` is lent to us alone, and `found` is a local of our own.
+    let number = unsafe {
+        sys::planner_search_smallest(
+            rule as u8,
+            d,
+            rows.as_ptr(),
+            rows.len(),
+            ceiling,
+            z.as_mut_ptr(),
+            z.len(),
+            &mut found,
+        )
+    };
+    Refusal::told(number).map(|()| found)
+}
+
+/// How many rows an output has room for: those of the list, where it is one.
+fn row_count(d: usize, rows: &[i16]) -> usize {
+    rows.len().checked_div(d).unwrap_or(0).min(MOST_ROWS)
+}

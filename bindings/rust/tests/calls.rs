@@ -1,0 +1,743 @@
+//! Every call of the library compared with an independent planner (`independent/mod.rs`), on many inputs: long and short, valid and
+//! damaged, all plans. Each call is made on the library's own functions, on lent places that are filled with a pattern and stand
+//! between guards, and again through the safe interface.
+
+mod independent;
+mod random;
+
+use std::collections::BTreeMap;
+use std::fmt::Debug;
+
+use planner::{sys, Entry, Plan, Refusal, Rule};
+use random::Random;
+
+/// The arguments that most calls share.
+#[derive(Clone, Debug)]
+struct Case {
+    plan: u8,
+    d: usize,
+    rows: Vec<i16>,
+    n: u16,
+    z: Vec<u16>,
+}
+
+impl Case {
+    fn new(plan: u8, d: usize, rows: &[i16], n: u16, z: &[u16]) -> Case {
+        Case { plan, d, rows: rows.to_vec(), n, z: z.to_vec() }
+    }
+
+    /// m, where the list is one.
+    fn row_count(&self) -> usize {
+        self.rows.len() / self.d.clamp(1, 6)
+    }
+
+    fn axes(&self) -> usize {
+        self.d.min(7)
+    }
+}
+
+/// Places to lend, filled with a pattern, between guards of the same pattern.
+struct Lent<T> {
+    all: Vec<T>,
+    pattern: T,
+}
+
+const GUARD: usize = 8;
+
+impl<T: Copy + PartialEq + Debug> Lent<T> {
+    fn new(places: usize, pattern: T) -> Lent<T> {
+        Lent { all: vec![pattern; places + 2 * GUARD], pattern }
+    }
+
+    fn lend(&mut self) -> &mut [T] {
+        let end = self.all.len() - GUARD;
+        &mut self.all[GUARD..end]
+    }
+
+    /// The places hold `written`, or the pattern where the call was refused, and the guards are untouched.
+    fn holds(&self, written: Option<&[T]>, told: &dyn Debug) {
+        let end = self.all.len() - GUARD;
+        let untouched = |part: &[T]| part.iter().all(|x| *x == self.pattern);
+        assert!(untouched(&self.all[..GUARD]) && untouched(&self.all[end..]), "a guard was written: {told:?}");
+        match written {
+            Some(written) => assert_eq!(&self.all[GUARD..end], written, "{told:?}"),
+            None => assert!(untouched(&self.all[GUARD..end]), "a refused call wrote: {told:?}"),
+        }
+    }
+}
+
+/// How often each number was returned, so that a test can say that it reached what it is for.
+#[derive(Default)]
+struct Seen(BTreeMap<u8, usize>);
+
+impl Seen {
+    fn add(&mut self, number: u8) {
+        *self.0.entry(number).or_default() += 1;
+    }
+
+    fn all_of(&self, numbers: &[u8], least: usize) {
+        for number in numbers {
+            let count = self.0.get(number).copied().unwrap_or(0);
+            assert!(count >= least, "{number} was returned {count} times only: {:?}", self.0);
+        }
+        assert!(self.0.keys().all(|number| numbers.contains(number)), "a number that should not be: {:?}", self.0);
+    }
+}
+
+/// The number that a call with this answer returns.
+fn number<T>(answer: &Result<T, u8>) -> u8 {
+    answer.as_ref().err().copied().unwrap_or(0)
+}
+
+/// The safe interface has the same answer, where the plan is one.
+fn safely<T: PartialEq + Debug>(
+    plan: u8,
+    expected: &Result<T, u8>,
+    call: impl FnOnce(Rule) -> Result<T, Refusal>,
+    told: &dyn Debug,
+) {
+    match Rule::try_from(plan) {
+        Ok(rule) => {
+            let answer = call(rule).map_err(Refusal::number);
+            assert_eq!(answer, *expected, "{told:?}");
+        }
+        Err(refusal) => assert_eq!(Err(&refusal.number()), expected.as_ref().map(|_| ()), "{told:?}"),
+    }
+}
+
+fn compare_check(c: &Case) -> Result<bool, u8> {
+    let expected = independent::check(c.plan, c.d, &c.rows, c.n, &c.z);
+    let mut yes = Lent::new(1, 0xa5);
+    let returned = unsafe {
+        sys::planner_check(
+            c.plan,
+            c.d,
+            c.rows.as_ptr(),
+            c.rows.len(),
+            c.n,
+            c.z.as_ptr(),
+            c.z.len(),
+            yes.lend().as_mut_ptr(),
+        )
+    };
+    assert_eq!(returned, number(&expected), "{c:?}");
+    yes.holds(expected.ok().map(|yes| [u8::from(yes)]).as_ref().map(|yes| &yes[..]), c);
+    safely(c.plan, &expected, |rule| planner::check(rule, c.d, &c.rows, c.n, &c.z), c);
+    expected
+}
+
+fn compare_map(c: &Case, places: usize) -> Result<Vec<u16>, u8> {
+    let told = (c, places);
+    let expected = independent::residue_map(c.plan, c.d, &c.rows, c.n, &c.z, places);
+    let mut out = Lent::new(places, 0xa5a5);
+    let returned = unsafe {
+        sys::planner_residue_map(
+            c.plan,
+            c.d,
+            c.rows.as_ptr(),
+            c.rows.len(),
+            c.n,
+            c.z.as_ptr(),
+            c.z.len(),
+            out.lend().as_mut_ptr(),
+            places,
+        )
+    };
+    assert_eq!(returned, number(&expected), "{told:?}");
+    out.holds(expected.as_deref().ok(), &told);
+
+    let mut out = Lent::new(places, 0x5a5a);
+    let answer = expected.as_ref().map(|_| ()).map_err(|&k| k);
+    safely(c.plan, &answer, |rule| planner::residue_map_into(rule, c.d, &c.rows, c.n, &c.z, out.lend()), &told);
+    out.holds(expected.as_deref().ok(), &told);
+
+    let entries = independent::residue_map(c.plan, c.d, &c.rows, c.n, &c.z, 2 * c.row_count())
+        .map(|map| map.chunks(2).map(|e| Entry { residue: e[0], copies: e[1] }).collect());
+    safely(c.plan, &entries, |rule| planner::residue_map(rule, c.d, &c.rows, c.n, &c.z), c);
+    expected
+}
+
+fn compare_spread(c: &Case, terms: &[i32], places: usize) -> Result<Vec<i64>, u8> {
+    let told = (c, terms.len(), places);
+    let expected = independent::spread(c.plan, c.d, &c.rows, c.n, &c.z, terms, places);
+    let mut sums = Lent::new(places, 0x5aa5_a55a_1234_8765);
+    let returned = unsafe {
+        sys::planner_spread(
+            c.plan,
+            c.d,
+            c.rows.as_ptr(),
+            c.rows.len(),
+            c.n,
+            c.z.as_ptr(),
+            c.z.len(),
+            terms.as_ptr(),
+            terms.len(),
+            sums.lend().as_mut_ptr(),
+            places,
+        )
+    };
+    assert_eq!(returned, number(&expected), "{told:?}");
+    sums.holds(expected.as_deref().ok(), &told);
+
+    let mut sums = Lent::new(places, -1);
+    let answer = expected.as_ref().map(|_| ()).map_err(|&k| k);
+    safely(c.plan, &answer, |rule| planner::spread_into(rule, c.d, &c.rows, c.n, &c.z, terms, sums.lend()), &told);
+    sums.holds(expected.as_deref().ok(), &told);
+
+    if places == usize::from(c.n) {
+        safely(c.plan, &expected, |rule| planner::spread(rule, c.d, &c.rows, c.n, &c.z, terms), &told);
+    }
+    expected
+}
+
+fn compare_gather(c: &Case, sums: &[i64], places: usize) -> Result<Vec<i32>, u8> {
+    let told = (c, sums.len(), places);
+    let expected = independent::gather(c.plan, c.d, &c.rows, c.n, &c.z, sums, places);
+    let mut terms = Lent::new(places, 0x5aa5_8765);
+    let returned = unsafe {
+        sys::planner_gather(
+            c.plan,
+            c.d,
+            c.rows.as_ptr(),
+            c.rows.len(),
+            c.n,
+            c.z.as_ptr(),
+            c.z.len(),
+            sums.as_ptr(),
+            sums.len(),
+            terms.lend().as_mut_ptr(),
+            places,
+        )
+    };
+    assert_eq!(returned, number(&expected), "{told:?}");
+    terms.holds(expected.as_deref().ok(), &told);
+
+    let mut terms = Lent::new(places, -1);
+    let answer = expected.as_ref().map(|_| ()).map_err(|&k| k);
+    safely(c.plan, &answer, |rule| planner::gather_into(rule, c.d, &c.rows, c.n, &c.z, sums, terms.lend()), &told);
+    terms.holds(expected.as_deref().ok(), &told);
+
+    if places == c.row_count() {
+        safely(c.plan, &expected, |rule| planner::gather(rule, c.d, &c.rows, c.n, &c.z, sums), &told);
+    }
+    expected
+}
+
+fn compare_points(c: &Case, places: usize) -> Result<Vec<u16>, u8> {
+    let told = (c.plan, c.d, c.n, &c.z, places);
+    let expected = independent::point_list(c.plan, c.d, c.n, &c.z, places);
+    let mut out = Lent::new(places, 0xa5a5);
+    let returned =
+        unsafe { sys::planner_point_list(c.plan, c.d, c.n, c.z.as_ptr(), c.z.len(), out.lend().as_mut_ptr(), places) };
+    assert_eq!(returned, number(&expected), "{told:?}");
+    out.holds(expected.as_deref().ok(), &told);
+
+    let mut out = Lent::new(places, 0x5a5a);
+    let answer = expected.as_ref().map(|_| ()).map_err(|&k| k);
+    safely(c.plan, &answer, |rule| planner::point_list_into(rule, c.d, c.n, &c.z, out.lend()), &told);
+    out.holds(expected.as_deref().ok(), &told);
+
+    if places == usize::from(c.n) * c.axes() {
+        safely(c.plan, &expected, |rule| planner::point_list(rule, c.d, c.n, &c.z), &told);
+    }
+    expected
+}
+
+/// The two searches have the same form: `n` is the modulus, or the ceiling.
+#[derive(Clone, Copy, Debug)]
+enum Search {
+    Vector,
+    Smallest,
+}
+
+fn compare_search(search: Search, c: &Case, places: usize) -> Result<(u16, Vec<u16>), u8> {
+    let told = (search, c, places);
+    let expected = match search {
+        Search::Vector => independent::search_vector(c.plan, c.d, &c.rows, c.n, places),
+        Search::Smallest => independent::search_smallest(c.plan, c.d, &c.rows, c.n, places),
+    };
+    let function = match search {
+        Search::Vector => sys::planner_search_vector,
+        Search::Smallest => sys::planner_search_smallest,
+    };
+    let mut z = Lent::new(places, 0xa5a5);
+    let mut found = Lent::new(1, 0x5a5a);
+    let returned = unsafe {
+        function(
+            c.plan,
+            c.d,
+            c.rows.as_ptr(),
+            c.rows.len(),
+            c.n,
+            z.lend().as_mut_ptr(),
+            places,
+            found.lend().as_mut_ptr(),
+        )
+    };
+    assert_eq!(returned, number(&expected), "{told:?}");
+    z.holds(expected.as_ref().ok().map(|(_, z)| &z[..]), &told);
+    found.holds(expected.as_ref().ok().map(|(n, _)| [*n]).as_ref().map(|n| &n[..]), &told);
+
+    let mut z = Lent::new(places, 0x5a5a);
+    let answer = expected.as_ref().map(|(n, _)| *n).map_err(|&k| k);
+    safely(
+        c.plan,
+        &answer,
+        |rule| match search {
+            Search::Vector => planner::search_vector_into(rule, c.d, &c.rows, c.n, z.lend()),
+            Search::Smallest => planner::search_smallest_into(rule, c.d, &c.rows, c.n, z.lend()),
+        },
+        &told,
+    );
+    z.holds(expected.as_ref().ok().map(|(_, z)| &z[..]), &told);
+
+    if places == c.axes() {
+        let plan = expected.clone().map(|(n, z)| Plan { n, z });
+        safely(
+            c.plan,
+            &plan,
+            |rule| match search {
+                Search::Vector => planner::search_vector(rule, c.d, &c.rows, c.n),
+                Search::Smallest => planner::search_smallest(rule, c.d, &c.rows, c.n),
+            },
+            &told,
+        );
+    }
+    expected
+}
+
+/// Check, map, spread, gather and point list on one case with places of the right length; gathering after spreading gives the terms
+/// back. The numbers returned are counted for each call.
+fn compare_all(c: &Case, random: &mut Random, seen: &mut [Seen; 5]) {
+    seen[0].add(number(&compare_check(c)));
+    seen[1].add(number(&compare_map(c, 2 * c.row_count())));
+    let terms = random.terms(c.row_count());
+    let sums = compare_spread(c, &terms, usize::from(c.n));
+    seen[2].add(number(&sums));
+    match sums {
+        Ok(mut sums) => {
+            assert_eq!(compare_gather(c, &sums, terms.len()), Ok(terms.clone()), "{c:?}");
+            seen[3].add(0);
+            // sums that no spreading gave
+            let at = random.below(sums.len());
+            sums[at] = random.sum();
+            seen[3].add(number(&compare_gather(c, &sums, terms.len())));
+        }
+        Err(refused) => {
+            let sums = vec![0; usize::from(c.n)];
+            let gathered = compare_gather(c, &sums, terms.len());
+            assert_eq!(gathered, Err(refused), "{c:?}");
+            seen[3].add(refused);
+        }
+    }
+    seen[4].add(number(&compare_points(c, usize::from(c.n) * c.axes())));
+}
+
+/// A component from -bound to bound, from 0 for plans 2 to 4.
+fn component(plan: u8, bound: usize, random: &mut Random) -> i16 {
+    let x = random.below(bound + 1) as i16;
+    if plan < 2 && random.below(2) == 0 {
+        -x
+    } else {
+        x
+    }
+}
+
+/// Different rows of a box, in random order, and a pair that keeps all of them and their mirrors apart: the components of z are the
+/// places of a number system with a digit for each axis.
+fn admissible_case(plan: u8, most_rows: usize, random: &mut Random) -> Case {
+    let d = 1 + random.below(6);
+    let mut bounds = vec![1; d];
+    let width = |bounds: &[i64]| bounds.iter().map(|b| 2 * b + 1).product::<i64>();
+    for _ in 0..random.below(400) {
+        let j = random.below(d);
+        bounds[j] += 1;
+        if width(&bounds) > 8192 || bounds[j] > 255 {
+            bounds[j] -= 1;
+        }
+    }
+    let whole = width(&bounds);
+    let n = whole + random.below((8193 - whole) as usize) as i64;
+    let mut z = Vec::new();
+    let mut place = 1;
+    for b in &bounds {
+        z.push(place);
+        place *= 2 * b + 1;
+    }
+    // a factor that has no divisor in common with n keeps all apart
+    let mut factor = 1 + random.below(n as usize) as i64;
+    while greatest_divisor(factor, n) != 1 {
+        factor -= 1;
+    }
+    let z: Vec<u16> = z.iter().map(|x| (x * factor % n) as u16).collect();
+
+    let count = 1 + random.below(most_rows);
+    let mut rows: Vec<Vec<i16>> = Vec::new();
+    for _ in 0..2 * count {
+        let row: Vec<i16> = bounds.iter().map(|&b| component(plan, b as usize, random)).collect();
+        if rows.len() < count && !rows.contains(&row) {
+            rows.push(row);
+        }
+    }
+    Case { plan, d, rows: rows.concat(), n: n as u16, z }
+}
+
+fn greatest_divisor(a: i64, b: i64) -> i64 {
+    if b == 0 {
+        a
+    } else {
+        greatest_divisor(b, a % b)
+    }
+}
+
+/// Any rows of small components with any small pair: some admissible, most not.
+fn any_case(plan: u8, random: &mut Random) -> Case {
+    let d = 1 + random.below(6);
+    let span = random.pick(&[1, 1, 2, 3, 10, 255]);
+    let count = 1 + random.below(6);
+    let rows = (0..count * d).map(|_| component(plan, span, random)).collect();
+    let most = random.pick(&[5, 20, 100, 8192]);
+    let n = 1 + random.below(most) as u16;
+    let z = (0..d).map(|_| random.below(usize::from(n)) as u16).collect();
+    Case { plan, d, rows, n, z }
+}
+
+/// One thing of the case is made wrong, or at least other.
+fn damage(c: &mut Case, random: &mut Random) {
+    let n = usize::from(c.n);
+    match random.below(15) {
+        0 => c.plan = random.pick(&[0, 5, 6, 255]),
+        1 => c.d = random.pick(&[0, 1, 2, 3, 4, 5, 6, 7, 8, 64, 1 << 32, usize::MAX]),
+        2 => c.rows.clear(),
+        3 => {
+            c.rows.pop();
+        }
+        4 => c.rows.push(7),
+        5 => {
+            // too many rows, by one or by many
+            let wanted = (513 + random.below(2) * random.below(600)) * c.axes();
+            while c.rows.len() < wanted {
+                c.rows.push(random.below(256) as i16);
+            }
+        }
+        6 | 7 if !c.rows.is_empty() => {
+            let at = random.below(c.rows.len());
+            c.rows[at] = random.pick(&[-1, -255, 255, 256, -256, 0, i16::MAX, i16::MIN]);
+        }
+        8 if c.axes() > 0 && c.rows.len() >= c.axes() => {
+            // a row again, at another place
+            let from = random.below(c.row_count().max(1)) * c.axes();
+            if let Some(row) = c.rows.get(from..from + c.axes()) {
+                let row = row.to_vec();
+                c.rows.extend(row);
+            }
+        }
+        9 => c.n = random.pick(&[0, 1, 8192, 8193, u16::MAX]),
+        10 => {
+            c.z.pop();
+        }
+        11 => c.z.push(0),
+        12 if !c.z.is_empty() => {
+            let at = random.below(c.z.len());
+            c.z[at] = random.pick(&[c.n, c.n.wrapping_add(1), c.n.wrapping_sub(1), 0, u16::MAX]);
+        }
+        13 => c.z = vec![0; c.z.len()],
+        _ if n > 1 => c.n -= 1,
+        _ => c.n = 2,
+    }
+}
+
+/// The numbers that each of the five calls of `compare_all` may return with places of the right length.
+fn all_seen(seen: &[Seen; 5], least: usize) {
+    seen[0].all_of(&[0, 1, 2, 3, 4, 5, 6, 7], least);
+    seen[1].all_of(&[0, 1, 2, 3, 4, 5, 6, 7, 10], least);
+    seen[2].all_of(&[0, 1, 2, 3, 4, 5, 6, 7, 10], least);
+    seen[3].all_of(&[0, 1, 2, 3, 4, 5, 6, 7, 10, 11], least);
+    seen[4].all_of(&[0, 1, 2, 6, 7], least);
+}
+
+#[test]
+fn short_lists() {
+    let mut random = Random::new(1);
+    let mut seen = Default::default();
+    let (mut yes, mut no) = (0, 0);
+    for turn in 0..4000 {
+        let plan = (turn % 5) as u8;
+        let mut c = if turn % 3 == 0 { admissible_case(plan, 8, &mut random) } else { any_case(plan, &mut random) };
+        match compare_check(&c) {
+            Ok(true) => yes += 1,
+            Ok(false) => no += 1,
+            Err(_) => {}
+        }
+        if turn % 2 == 0 {
+            for _ in 0..=random.below(3) {
+                damage(&mut c, &mut random);
+            }
+        }
+        compare_all(&c, &mut random, &mut seen);
+    }
+    assert!(yes > 1000 && no > 500, "yes {yes}, no {no}");
+    all_seen(&seen, 20);
+}
+
+#[test]
+fn long_lists() {
+    let mut random = Random::new(2);
+    let mut seen = Default::default();
+    let mut longest = 0;
+    for turn in 0..150 {
+        let plan = (turn % 5) as u8;
+        let mut c = admissible_case(plan, 512, &mut random);
+        longest = longest.max(c.row_count());
+        assert_eq!(compare_check(&c), Ok(true), "{c:?}");
+        if turn >= 50 {
+            for _ in 0..=random.below(2) {
+                damage(&mut c, &mut random);
+            }
+        }
+        compare_all(&c, &mut random, &mut seen);
+    }
+    assert!(longest > 400, "{longest}");
+    all_seen(&seen, 1);
+}
+
+/// 512 rows, the most there may be, and 513, in every plan.
+#[test]
+fn full_lists() {
+    let mut random = Random::new(3);
+    let mut seen = Default::default();
+    for plan in 0..5 {
+        // 512 rows over 1, 2, 3 and 6 axes, admissible by the digits of a number
+        let mut line: Vec<i16> = (-255..=255).collect();
+        let square: Vec<i16> = (0..32).flat_map(|a| (0..16).flat_map(move |b| [a, b])).collect();
+        let cube: Vec<i16> =
+            (0..8).flat_map(|a| (0..8).flat_map(move |b| (0..8).flat_map(move |e| [a, b, e]))).collect();
+        let mut cases =
+            vec![Case::new(plan, 2, &square, 2048, &[1, 64]), Case::new(plan, 3, &cube, 3375, &[1, 15, 225])];
+        if plan < 2 {
+            cases.push(Case::new(plan, 1, &line, 511, &[1]));
+            cases.push(Case::new(plan, 1, &line, 8191, &[8190]));
+            line.push(256);
+            cases.push(Case::new(plan, 1, &line, 8191, &[8190]));
+        }
+        // 512 rows with all components above 0 have 32768 mirrors
+        let many: Vec<i16> = (0..512i16).flat_map(|i| [1 + i % 8, 1 + i / 8 % 8, 1 + i / 64, 1, 2, 3]).collect();
+        cases.push(Case::new(plan, 6, &many, 8192, &[1, 8, 64, 512, 1024, 2048]));
+        cases.push(Case::new(plan, 6, &many, 8191, &[1, 17, 289, 4913, 301, 5117]));
+        for mut c in cases {
+            compare_all(&c, &mut random, &mut seen);
+            let row = vec![9; c.d];
+            c.rows.extend(row);
+            compare_all(&c, &mut random, &mut seen);
+        }
+    }
+    seen[3].all_of(&[0, 1, 3, 4, 5, 10, 11], 1);
+}
+
+/// Places, terms and sums of every wrong length, whatever else is wrong.
+#[test]
+fn wrong_lengths() {
+    let mut random = Random::new(4);
+    let mut seen = Seen::default();
+    for turn in 0..1500 {
+        let plan = (turn % 5) as u8;
+        let mut c = if turn % 2 == 0 { admissible_case(plan, 20, &mut random) } else { any_case(plan, &mut random) };
+        if turn % 4 == 0 {
+            damage(&mut c, &mut random);
+        }
+        let m = c.row_count();
+        let n = usize::from(c.n);
+        let mut other = |right: usize| match random.below(6) {
+            0 => 0,
+            1 => right + 1,
+            2 => right.saturating_sub(1),
+            3 => right / 2,
+            4 => 2 * right,
+            _ => right,
+        };
+        let (map, terms, sums, points) = (other(2 * m), other(m), other(n), other(n * c.axes()));
+        let given = random.terms(terms);
+        seen.add(number(&compare_map(&c, map)));
+        seen.add(number(&compare_spread(&c, &given, sums)));
+        seen.add(number(&compare_gather(&c, &vec![0; sums], terms)));
+        seen.add(number(&compare_points(&c, points)));
+    }
+    assert!(seen.0[&8] > 1000, "{:?}", seen.0);
+}
+
+/// A small list with its smallest plan, where under plan C mirrors of a row may share its residue.
+fn tight_case(plan: u8, random: &mut Random) -> Case {
+    loop {
+        let mut c = any_case(plan, random);
+        c.rows.truncate(2 * c.d);
+        let d = c.d.min(3);
+        c.d = d;
+        c.rows.truncate(c.rows.len() / d * d);
+        if let Ok((n, z)) = independent::search_smallest(plan, d, &c.rows, 6, d) {
+            return Case { n, z, ..c };
+        }
+    }
+}
+
+/// Gathering after spreading gives the terms back, to the ends of 32 bits; and sums at the ends of 64 bits are refused or divided.
+#[test]
+fn gathering() {
+    let mut random = Random::new(5);
+    let mut seen = Seen::default();
+    let mut shared = 0;
+    for turn in 0..480 {
+        let plan = 1 + (turn % 4) as u8;
+        let c = match turn % 3 {
+            0 => admissible_case(plan, 60, &mut random),
+            1 => any_case(plan, &mut random),
+            _ => tight_case(plan, &mut random),
+        };
+        let Ok(map) = compare_map(&c, 2 * c.row_count()) else { continue };
+        if map.chunks(2).any(|entry| entry[1] > 1) {
+            shared += 1;
+        }
+        for terms in [vec![i32::MAX; c.row_count()], vec![i32::MIN; c.row_count()], random.terms(c.row_count())] {
+            let sums = compare_spread(&c, &terms, usize::from(c.n)).unwrap();
+            assert_eq!(compare_gather(&c, &sums, terms.len()), Ok(terms), "{c:?}");
+            for _ in 0..4 {
+                let mut sums = sums.clone();
+                for _ in 0..1 + random.below(3) {
+                    // at a residue that a row has, or at any
+                    let row = random.below(c.row_count());
+                    let any = random.below(sums.len());
+                    let at = random.pick(&[usize::from(map[2 * row]), any]);
+                    sums[at] = match random.below(3) {
+                        0 => random.sum(),
+                        1 => sums[at].wrapping_add(1),
+                        _ => sums[at].wrapping_mul(2),
+                    };
+                }
+                seen.add(number(&compare_gather(&c, &sums, c.row_count())));
+            }
+        }
+    }
+    assert!(shared > 30, "{shared}");
+    seen.all_of(&[0, 11], 500);
+}
+
+#[test]
+fn cutting_lists() {
+    let mut random = Random::new(6);
+    let mut seen = Seen::default();
+    for turn in 0..400 {
+        let plan = (turn % 6) as u8;
+        let d = random.below(8);
+        let n = random.pick(&[0, 1, 2, 3, 4, 5, 16, 97, 4096, 8191, 8192, 8193]);
+        let z = (0..d)
+            .map(|_| random.below(usize::from(n) + 1) as u16)
+            .map(|x| if turn % 8 > 0 { x.min(n.max(1) - 1) } else { x })
+            .collect();
+        let c = Case { plan, d, rows: vec![], n, z };
+        seen.add(number(&compare_points(&c, usize::from(n) * d)));
+    }
+    seen.all_of(&[0, 1, 2, 6, 7], 5);
+}
+
+/// The searches against every modulus and every vector in order, on small lists.
+#[test]
+fn searches() {
+    let mut random = Random::new(7);
+    let mut seen = [Seen::default(), Seen::default()];
+    for turn in 0..3000 {
+        let plan = (turn % 5) as u8;
+        let d = 1 + random.below(3);
+        let span = random.pick(&[1, 2, 3, 6, 40]);
+        let count = 1 + random.below([6, 4, 3][d - 1]);
+        let mut rows: Vec<Vec<i16>> = Vec::new();
+        for _ in 0..count {
+            let row: Vec<i16> = (0..d).map(|_| component(plan, span, &mut random)).collect();
+            if !rows.contains(&row) {
+                rows.push(row);
+            }
+        }
+        let ceiling = 1 + random.below([40, 14, 9][d - 1]) as u16;
+        let mut c = Case { plan, d, rows: rows.concat(), n: ceiling, z: vec![] };
+        let mut places = d;
+        if turn % 4 == 0 {
+            match random.below(6) {
+                0 => places = random.below(8),
+                1 => c.n = random.pick(&[0, 8193, u16::MAX]),
+                2 => c.rows.extend(rows[0].clone()),
+                3 => c.d = random.pick(&[0, 7, usize::MAX]),
+                4 => c.rows[0] = random.pick(&[256, -256, i16::MIN]),
+                _ => {
+                    c.plan = random.pick(&[5, 255]);
+                    places = 0;
+                }
+            }
+            if random.below(4) == 0 {
+                c.rows.push(3);
+            }
+        }
+        seen[0].add(number(&compare_search(Search::Vector, &c, places)));
+        seen[1].add(number(&compare_search(Search::Smallest, &c, places)));
+    }
+    for seen in &seen {
+        seen.all_of(&[0, 1, 2, 3, 4, 5, 6, 8, 9], 20);
+    }
+}
+
+/// What document 01 prints: the ten trial tickets, the lines below them, and the small example of each refusal.
+#[test]
+fn documented() {
+    let rows = [0, 1, 2];
+    let axes = [0, 0, 1, 0, 0, 1];
+    type Ticket<'a> = (u8, usize, &'a [i16], u16, &'a [u16]);
+    let tickets: [Ticket; 10] = [
+        (1, 1, &rows, 3, &[1]),
+        (2, 1, &rows, 5, &[1]),
+        (3, 1, &rows, 5, &[1]),
+        (4, 1, &rows, 4, &[1]),
+        (1, 2, &axes, 3, &[1, 2]),
+        (2, 2, &axes, 5, &[1, 2]),
+        (4, 2, &axes, 4, &[1, 2]),
+        (2, 2, &[1, 1], 5, &[1, 2]),
+        (3, 2, &[1, 1], 3, &[1, 1]),
+        (4, 2, &[1, 1], 1, &[0, 0]),
+    ];
+    for (plan, d, rows, n, z) in tickets {
+        let c = Case::new(plan, d, rows, 12, &[]);
+        assert_eq!(compare_search(Search::Smallest, &c, d), Ok((n, z.to_vec())), "{c:?}");
+    }
+    assert_eq!(compare_map(&Case::new(4, 1, &rows, 4, &[1]), 6), Ok(vec![0, 1, 1, 1, 2, 2]));
+    assert_eq!(compare_map(&Case::new(4, 2, &[1, 1], 1, &[0, 0]), 2), Ok(vec![0, 4]));
+    let six = |n| Case::new(0, 1, &[6], n, &[]);
+    assert_eq!(compare_search(Search::Smallest, &six(4), 1), Ok((4, vec![1])));
+    assert_eq!(compare_search(Search::Smallest, &six(3), 1), Err(9));
+    assert_eq!(compare_search(Search::Vector, &six(5), 1), Ok((5, vec![1])));
+    assert_eq!(compare_search(Search::Vector, &six(6), 1), Err(9));
+    assert_eq!(compare_search(Search::Vector, &six(7), 1), Ok((7, vec![1])));
+    assert_eq!(compare_spread(&Case::new(4, 1, &rows, 4, &[1]), &[5, -3, 2], 4), Ok(vec![5, -3, 4, -3]));
+    assert_eq!(compare_points(&Case::new(1, 2, &[], 5, &[1, 2]), 10).unwrap()[6..8], [3, 1]);
+    assert_eq!(compare_points(&Case::new(2, 2, &[], 5, &[1, 2]), 10).unwrap()[6..8], [4, 2]);
+
+    assert_eq!(compare_check(&Case::new(5, 1, &rows, 4, &[1])), Err(1));
+    assert_eq!(compare_check(&Case::new(1, 0, &rows, 4, &[1])), Err(2));
+    assert_eq!(compare_check(&Case::new(1, 2, &[1, 0, 4], 4, &[1, 1])), Err(3));
+    assert_eq!(compare_check(&Case::new(2, 1, &[-1], 4, &[1])), Err(4));
+    assert_eq!(compare_check(&Case::new(1, 1, &[3, 3], 4, &[1])), Err(5));
+    assert_eq!(compare_check(&Case::new(1, 1, &rows, 0, &[1])), Err(6));
+    assert_eq!(compare_check(&Case::new(1, 1, &rows, 4, &[4])), Err(7));
+    assert_eq!(compare_search(Search::Smallest, &Case::new(1, 2, &axes, 9, &[]), 3), Err(8));
+    assert_eq!(compare_map(&Case::new(1, 1, &[0, 1], 2, &[0]), 4), Err(10));
+    assert_eq!(compare_gather(&Case::new(4, 1, &rows, 4, &[1]), &[5, -3, 3, -3], 3), Err(11));
+}
+
+/// The refusals have their numbers, and say what they are.
+#[test]
+fn refusals() {
+    for (i, refusal) in Refusal::ALL.iter().enumerate() {
+        assert_eq!(usize::from(refusal.number()), i + 1);
+        let error: &dyn std::error::Error = refusal;
+        assert!(error.to_string().len() > 10);
+    }
+    for (i, rule) in Rule::ALL.iter().enumerate() {
+        assert_eq!(Rule::try_from(i as u8), Ok(*rule));
+    }
+    assert_eq!(Rule::try_from(5), Err(Refusal::Plan));
+}

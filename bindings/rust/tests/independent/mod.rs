@@ -1,0 +1,258 @@
+//! A planner written from document 01's words alone, to hold the library against. It shares nothing with the crates and knows no
+//! shortcut: every residue is a sum of products, every rule goes pair by pair, and a search tries every vector.
+//!
+//! A call answers with what it would write, or with the number of the refusal.
+
+/// The number from 0 to n-1 that differs from h·z by a multiple of n.
+fn residue(h: &[i64], n: i64, z: &[i64]) -> i64 {
+    let mut sum = 0;
+    for j in 0..h.len() {
+        sum += h[j] * z[j];
+    }
+    sum.rem_euclid(n)
+}
+
+/// S(k): the different rows got by changing signs of components of k.
+fn mirrors(k: &[i64]) -> Vec<Vec<i64>> {
+    let mut all = vec![k.to_vec()];
+    for j in 0..k.len() {
+        let mut changed = all.clone();
+        for s in &mut changed {
+            s[j] = -s[j];
+        }
+        all.extend(changed);
+    }
+    all.sort();
+    all.dedup();
+    all
+}
+
+/// A row with its residue.
+struct Placed {
+    row: Vec<i64>,
+    residue: i64,
+}
+
+fn placed(rows: Vec<Vec<i64>>, n: i64, z: &[i64]) -> Vec<Placed> {
+    rows.into_iter().map(|row| Placed { residue: residue(&row, n, z), row }).collect()
+}
+
+/// Different members of `all` have different residues.
+fn differ(all: &[Placed]) -> bool {
+    for (i, s) in all.iter().enumerate() {
+        for t in &all[..i] {
+            if s.residue == t.residue && s.row != t.row {
+                return false;
+            }
+        }
+    }
+    true
+}
+
+/// Whether the pair n, z meets the plan's rule.
+fn admissible(plan: u8, list: &[Vec<i64>], n: i64, z: &[i64]) -> bool {
+    let rows = placed(list.to_vec(), n, z);
+    match plan {
+        0 => rows.iter().all(|k| k.row.iter().all(|&x| x == 0) || k.residue != 0),
+        1 => differ(&rows),
+        2 => differ(&placed(list.iter().flat_map(|k| mirrors(k)).collect(), n, z)),
+        _ => {
+            for other in list {
+                for s in placed(mirrors(other), n, z) {
+                    for k in &rows {
+                        let kept_apart = if plan == 3 { s.row != k.row } else { *other != k.row };
+                        if kept_apart && s.residue == k.residue {
+                            return false;
+                        }
+                    }
+                }
+            }
+            true
+        }
+    }
+}
+
+// The refusal table: the number where the condition applies.
+
+fn refuse(number: u8, applies: bool) -> Result<(), u8> {
+    if applies {
+        Err(number)
+    } else {
+        Ok(())
+    }
+}
+
+/// 1 to 5, and the list.
+fn the_list(plan: u8, zero_allowed: bool, d: usize, rows: &[i16]) -> Result<Vec<Vec<i64>>, u8> {
+    refuse(1, plan > 4 || (plan == 0 && !zero_allowed))?;
+    refuse(2, !(1..=6).contains(&d))?;
+    refuse(3, rows.is_empty() || rows.len() % d != 0 || rows.len() / d > 512)?;
+    let least = if plan >= 2 { 0 } else { -255 };
+    refuse(4, rows.iter().any(|x| !(least..=255).contains(x)))?;
+    let list: Vec<Vec<i64>> = rows.chunks(d).map(|k| k.iter().map(|&x| i64::from(x)).collect()).collect();
+    for (i, k) in list.iter().enumerate() {
+        refuse(5, list[..i].contains(k))?;
+    }
+    Ok(list)
+}
+
+/// 6
+fn the_modulus(n: u16) -> Result<i64, u8> {
+    refuse(6, !(1..=8192).contains(&n))?;
+    Ok(i64::from(n))
+}
+
+/// 6 and 7, and the pair.
+fn the_pair(d: usize, n: u16, z: &[u16]) -> Result<(i64, Vec<i64>), u8> {
+    let modulus = the_modulus(n)?;
+    refuse(7, z.len() != d || z.iter().any(|&x| x >= n))?;
+    Ok((modulus, z.iter().map(|&x| i64::from(x)).collect()))
+}
+
+// The calls.
+
+pub fn check(plan: u8, d: usize, rows: &[i16], n: u16, z: &[u16]) -> Result<bool, u8> {
+    let list = the_list(plan, true, d, rows)?;
+    let (n, z) = the_pair(d, n, z)?;
+    Ok(admissible(plan, &list, n, &z))
+}
+
+/// What map, spread and gather ask of their list, pair and places, and S(k) there: the list, the pair and the rows' mirrors.
+struct Table {
+    n: i64,
+    z: Vec<i64>,
+    list: Vec<Vec<i64>>,
+    mirrors: Vec<Vec<Vec<i64>>>,
+}
+
+impl Table {
+    fn of(plan: u8, d: usize, rows: &[i16], n: u16, z: &[u16], places: impl Fn(usize) -> bool) -> Result<Table, u8> {
+        let list = the_list(plan, false, d, rows)?;
+        let (n, z) = the_pair(d, n, z)?;
+        refuse(8, !places(list.len()))?;
+        refuse(10, !admissible(plan, &list, n, &z))?;
+        let mirrors = list.iter().map(|k| if plan == 1 { vec![k.clone()] } else { mirrors(k) }).collect();
+        Ok(Table { n, z, list, mirrors })
+    }
+
+    fn residue(&self, row: &[i64]) -> i64 {
+        residue(row, self.n, &self.z)
+    }
+
+    /// The residue and c of each row.
+    fn entries(&self) -> Vec<(i64, i64)> {
+        let mut entries = Vec::new();
+        for (k, mirrors) in self.list.iter().zip(&self.mirrors) {
+            let at = self.residue(k);
+            let mut c = 0;
+            for s in mirrors {
+                if self.residue(s) == at {
+                    c += 1;
+                }
+            }
+            entries.push((at, c));
+        }
+        entries
+    }
+}
+
+pub fn residue_map(plan: u8, d: usize, rows: &[i16], n: u16, z: &[u16], places: usize) -> Result<Vec<u16>, u8> {
+    let table = Table::of(plan, d, rows, n, z, |m| places == 2 * m)?;
+    Ok(table.entries().iter().flat_map(|&(at, c)| [at as u16, c as u16]).collect())
+}
+
+pub fn spread(
+    plan: u8,
+    d: usize,
+    rows: &[i16],
+    n: u16,
+    z: &[u16],
+    terms: &[i32],
+    places: usize,
+) -> Result<Vec<i64>, u8> {
+    let table = Table::of(plan, d, rows, n, z, |m| terms.len() == m && places == usize::from(n))?;
+    let mut sums = vec![0; usize::from(n)];
+    for (mirrors, &a) in table.mirrors.iter().zip(terms) {
+        for s in mirrors {
+            sums[table.residue(s) as usize] += i64::from(a);
+        }
+    }
+    Ok(sums)
+}
+
+pub fn gather(
+    plan: u8,
+    d: usize,
+    rows: &[i16],
+    n: u16,
+    z: &[u16],
+    sums: &[i64],
+    places: usize,
+) -> Result<Vec<i32>, u8> {
+    let table = Table::of(plan, d, rows, n, z, |m| places == m && sums.len() == usize::from(n))?;
+    let mut terms = Vec::new();
+    for (at, c) in table.entries() {
+        let sum = sums[at as usize];
+        refuse(11, sum % c != 0)?;
+        terms.push(i32::try_from(sum / c).map_err(|_| 11)?);
+    }
+    Ok(terms)
+}
+
+pub fn point_list(plan: u8, d: usize, n: u16, z: &[u16], places: usize) -> Result<Vec<u16>, u8> {
+    refuse(1, plan > 4)?;
+    refuse(2, !(1..=6).contains(&d))?;
+    let (n, z) = the_pair(d, n, z)?;
+    refuse(8, places != n as usize * d)?;
+    let mut out = Vec::new();
+    for i in 0..n {
+        for &x in &z {
+            let r = (i * x).rem_euclid(n);
+            out.push(if plan >= 2 { (2 * r).min(2 * n - 2 * r) } else { r } as u16);
+        }
+    }
+    Ok(out)
+}
+
+/// The first admissible vector at n in dictionary order.
+fn first(plan: u8, d: usize, list: &[Vec<i64>], n: i64) -> Option<Vec<i64>> {
+    let mut z = vec![0; d];
+    loop {
+        if admissible(plan, list, n, &z) {
+            return Some(z);
+        }
+        // the next in dictionary order
+        let mut j = d;
+        loop {
+            if j == 0 {
+                return None;
+            }
+            j -= 1;
+            z[j] += 1;
+            if z[j] < n {
+                break;
+            }
+            z[j] = 0;
+        }
+    }
+}
+
+fn search(plan: u8, d: usize, rows: &[i16], low: u16, high: u16, places: usize) -> Result<(u16, Vec<u16>), u8> {
+    let list = the_list(plan, true, d, rows)?;
+    the_modulus(high)?;
+    refuse(8, places != d)?;
+    for n in low..=high {
+        if let Some(z) = first(plan, d, &list, i64::from(n)) {
+            return Ok((n, z.iter().map(|&x| x as u16).collect()));
+        }
+    }
+    Err(9)
+}
+
+pub fn search_vector(plan: u8, d: usize, rows: &[i16], n: u16, places: usize) -> Result<(u16, Vec<u16>), u8> {
+    search(plan, d, rows, n, n, places)
+}
+
+pub fn search_smallest(plan: u8, d: usize, rows: &[i16], ceiling: u16, places: usize) -> Result<(u16, Vec<u16>), u8> {
+    search(plan, d, rows, 1, ceiling, places)
+}

@@ -1,0 +1,2 @@
+-- Laws of the exports' answers.
+pub mod AnswerLaws

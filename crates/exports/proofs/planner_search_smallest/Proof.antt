@@ -1,0 +1,49 @@
+-- `exports::planner_search_smallest` meets its contract: the planner's own answer meets the relation, and the number and the place are
+-- those of it.
+use borrow.Author.Needs.{needs}
+use Rattle.exports.proofs.AnswerLaws.{planned, refused}
+use Rattle.exports.proofs.planner_search_smallest.Statement.{statement}
+use Rattle.exports.proofs.planner_search_smallest.Tie as tie
+
+search-smallest-requires : tie.Need-search-smallest-requires
+search-smallest-requires c κs = search needs
+
+enum-known-smallest : tie.Need-enum-known-smallest
+enum-known-smallest c = search needs
+
+enum-told : tie.Need-enum-told
+enum-told c = search needs
+
+refusal-in-requires : tie.Need-refusal-in-requires
+refusal-in-requires c κs = search needs
+
+same-length : tie.Need-same-length
+same-length c = search needs
+
+returns : tie.Need-returns
+returns c =
+    let call = c .before .before .before .before .before in
+    let was = c .before .enum-told .given in
+    refused (call .search-smallest .result) (was .0 .0) (call .before .before .before .args .found .now) (c .refusal-in .result) (was .1) (call .search-smallest .ensures) (c .refusal-in .ensures)
+
+same-length-2 : tie.Need-same-length-2
+same-length-2 c = search needs
+
+returns-2 : tie.Need-returns-2
+returns-2 c =
+    let call = c .before .before .before .before .before in
+    let was = c .before .smallest .given in
+    planned (call .search-smallest .result) (was .0 .0) (call .before .before .before .args .found .now) (was .1) (call .search-smallest .ensures)
+
+pub planner-search-smallest-spec : {M : Type 1} → statement M
+planner-search-smallest-spec =
+    tie.close
+    (tie.spec
+    search-smallest-requires
+    enum-known-smallest
+    enum-told
+    refusal-in-requires
+    same-length
+    returns
+    same-length-2
+    returns-2)

@@ -1,0 +1,6 @@
+-- The text form (document 01, "The ticket program"): how a request is read and what the answer's text is.
+pub mod Text
+pub mod Reading
+pub mod Answer
+pub mod Reply
+pub mod Inner

@@ -1,0 +1,109 @@
+/*
+ * The planner: rank-1 lattices that keep the terms of a list apart. Link with target/staticlib/libexports.a, which
+ * `rt staticlib exports` writes (x86-64 Linux). Every function is proved to meet its contract (crates/exports).
+ *
+ * The arguments
+ *   plan            0 exact integration, 1 Fourier reconstruction, 2, 3, 4 cosine plans A, B, C
+ *   d               the number of axes, 1 to 6
+ *   rows, rows_len  the list: m rows of d numbers, one after the other, so rows_len is m * d, m from 1 to 512. Each number is
+ *                   from -255 to 255, not negative for plans 2, 3 and 4, and all rows differ
+ *   n               the modulus, 1 to 8192
+ *   z, z_len        the generating vector: d numbers from 0 to n - 1, so z_len is d
+ * A length counts elements, not bytes.
+ *
+ * The answer
+ *   Every call returns the number of the refusal, 0 for none. Each call tries the conditions that are listed at it in their order
+ *   and returns the first that applies; then nothing that was lent is written. Any values may be passed: no call fails otherwise.
+ *
+ *    1  plan above 4; for map, spread and gather also plan 0
+ *    2  d not 1 to 6
+ *    3  list empty, rows_len no multiple of d, or more than 512 rows
+ *    4  a component of a row outside its range
+ *    5  two equal rows
+ *    6  n, or the ceiling, not 1 to 8192
+ *    7  z not d long, or a component of it n or more
+ *    8  an output, or the terms or sums, not of the exact length
+ *    9  search: nothing admissible
+ *   10  map, spread, gather: the pair n, z is not admissible
+ *   11  gather: a sum is no multiple of c, or a quotient does not fit 32 bits
+ *
+ * What the caller owes
+ *   Every pointer is aligned and not null, also where its length is 0, and points to as many elements as its length says. What a
+ *   call may write overlaps nothing else that it is passed, and nothing else touches the memory until it returns. A call takes less
+ *   than 128 KiB of stack. The calls keep no state: different threads may call at once.
+ */
+#ifndef PLANNER_H
+#define PLANNER_H
+
+#include <stddef.h>
+#include <stdint.h>
+
+#ifdef __cplusplus
+extern "C" {
+#endif
+
+/*
+ * Whether the pair n, z is admissible: meets the rule of the plan for the list.
+ * Refusals: 1 2 3 4 5 6 7.
+ * Writes, where it returns 0: *yes, 1 where the pair is admissible and else 0.
+ */
+uint8_t planner_check(uint8_t plan, size_t d, const int16_t *rows, size_t rows_len, uint16_t n, const uint16_t *z, size_t z_len,
+                      uint8_t *yes);
+
+/*
+ * The residue map: for each row its residue, and then c, the number of its mirrors (the row among them) that have this residue. For
+ * plan 1 a row is its only mirror.
+ * Refusals: 1 (also plan 0) 2 3 4 5 6 7, 8 where out_len is not 2 * m, 10.
+ * Writes, where it returns 0: out, 2 * m numbers.
+ */
+uint8_t planner_residue_map(uint8_t plan, size_t d, const int16_t *rows, size_t rows_len, uint16_t n, const uint16_t *z,
+                            size_t z_len, uint16_t *out, size_t out_len);
+
+/*
+ * Spreading: the sum at residue r adds a row's term once for each mirror of the row that has residue r.
+ * terms: m numbers, one for each row.
+ * Refusals: 1 (also plan 0) 2 3 4 5 6 7, 8 where terms_len is not m or sums_len is not n, 10.
+ * Writes, where it returns 0: sums, n numbers.
+ */
+uint8_t planner_spread(uint8_t plan, size_t d, const int16_t *rows, size_t rows_len, uint16_t n, const uint16_t *z, size_t z_len,
+                       const int32_t *terms, size_t terms_len, int64_t *sums, size_t sums_len);
+
+/*
+ * Gathering: for each row the sum at its residue, divided by its c. It gives spread terms back.
+ * sums: n numbers; those at residues that no row has are not read.
+ * Refusals: 1 (also plan 0) 2 3 4 5 6 7, 8 where terms_len is not m or sums_len is not n, 10, 11.
+ * Writes, where it returns 0: terms, m numbers.
+ */
+uint8_t planner_gather(uint8_t plan, size_t d, const int16_t *rows, size_t rows_len, uint16_t n, const uint16_t *z, size_t z_len,
+                       const int64_t *sums, size_t sums_len, int32_t *terms, size_t terms_len);
+
+/*
+ * The cutting list: n lines of d numbers. Line i holds for axis j the residue of i * z[j]; for plans 2, 3 and 4 the tent numerator of
+ * that residue r, the smaller of 2 r and 2 n - 2 r. It takes no list, and z need not be admissible.
+ * Refusals: 1 2 6 7, 8 where out_len is not n * d.
+ * Writes, where it returns 0: out, n * d numbers.
+ */
+uint8_t planner_point_list(uint8_t plan, size_t d, uint16_t n, const uint16_t *z, size_t z_len, uint16_t *out, size_t out_len);
+
+/*
+ * The vector search: the first admissible vector at n in dictionary order, the first component most significant.
+ * Refusals: 1 2 3 4 5 6, 8 where z_len is not d, 9 where no vector is admissible at n.
+ * Writes, where it returns 0: z, d numbers from 0 to n - 1, and *found, which is n.
+ */
+uint8_t planner_search_vector(uint8_t plan, size_t d, const int16_t *rows, size_t rows_len, uint16_t n, uint16_t *z, size_t z_len,
+                              uint16_t *found);
+
+/*
+ * The smallest plan: the smallest modulus from 1 to the ceiling that has an admissible vector, and the first such vector.
+ * Refusals: 1 2 3 4 5 6, 8 where z_len is not d, 9 where no modulus up to the ceiling has one.
+ * Writes, where it returns 0: z, d numbers from 0 to *found - 1, and *found, the modulus.
+ * It may take long: the ceiling bounds the moduli that it tries.
+ */
+uint8_t planner_search_smallest(uint8_t plan, size_t d, const int16_t *rows, size_t rows_len, uint16_t ceiling, uint16_t *z,
+                                size_t z_len, uint16_t *found);
+
+#ifdef __cplusplus
+}
+#endif
+
+#endif
