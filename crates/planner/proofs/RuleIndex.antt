@@ -16,9 +16,10 @@ use Rattle.rank1.specs.Index.{zeroRow, mirrors, rowCount, indexList}
 use Rattle.rank1.specs.Rule.{Integrates, Reconstructs, PlanA, PlanB, PlanC, Admissible}
 use Rattle.rank1.specs.Valid.{Distinct, Nonnegative}
 use Rattle.rank1.proofs.ResidueLaws.{residue-lt}
+use Rattle.rank1.proofs.CountingLaws.{rule-reconstructs}
 use Rattle.rank1.proofs.Distinct.{member-at, place-of, distinct-at}
 use Rattle.rank1.proofs.Order.{compared}
-use Rattle.rank1.proofs.MirrorLaws.{nonzeros, mirror-self, mirrors-first, mirrors-distinct, mirrored-in, same-row}
+use Rattle.rank1.proofs.MirrorLaws.{nonzeros, mirror-self, mirrors-first, mirrors-distinct, same-row}
 use Rattle.rank1.proofs.IndexLaws.{row-fits, row-at, rows-length, row-in}
 use Rattle.planner.specs.Inner.{Decides, Ready, Owners, Recorded, residueOf, clash}
 use Rattle.planner.proofs.OwnerLaws.{Free, AllApart, not-both, decides-yes, decides-no, owners-clash, owners-apart, owner-free, owner-forbids}
@@ -67,17 +68,6 @@ module _ (ks : List (List ℤ)) (n : ℕ) (z : List ℤ) where
         (ap (residueAt n z) (p .is) ∙ e ∙ ap (residueAt n z) (sym (q .is)))),
   )
 
-  -- every plan but plan 0 asks for that, since a row is one of its mirrors
-  pub rule-reconstructs : (plan : ℕ) → plan ≢ 0 → Admissible ks n z plan → Reconstructs ks n z
-  unfolding Reconstructs PlanA PlanB PlanC
-  rule-reconstructs zero some rule = absurd (some refl)
-  rule-reconstructs (suc zero) some rule = rule
-  rule-reconstructs (suc (suc zero)) some rule =
-      λ k k′ m m′ other. rule k k′ (mirrored-in ks k k m (mirror-self k)) (mirrored-in ks k′ k′ m′ (mirror-self k′)) other
-  rule-reconstructs (suc (suc (suc zero))) some rule = λ k k′ m m′ other e. rule k k′ k′ m m′ (mirror-self k′) (λ same. other (sym same)) (sym e)
-  rule-reconstructs (suc (suc (suc (suc zero)))) some rule = λ k k′ m m′ other e. rule k k′ k′ m m′ other (mirror-self k′) (sym e)
-  rule-reconstructs (suc (suc (suc (suc (suc p))))) some rule = absurd rule
-
   -- ---- plans 3 and 4
   -- the mirrors of row i from number 1 on, up to number t, have the residue of no row that the plan keeps apart from row i
   abbrev pub MirrorsFree : (plan i t : ℕ) → Type 0
@@ -121,7 +111,7 @@ module _ (ks : List (List ℤ)) (n : ℕ) (z : List ℤ) where
   mirrors-rows (suc (suc zero)) lo hi d unsigned = absurd (omega arith)
   mirrors-rows (suc (suc (suc zero))) lo hi d unsigned = (
     (λ rule. (
-      reconstructs-rows d .0 (rule-reconstructs 3 (λ no. omega arith) rule),
+      reconstructs-rows d .0 (rule-reconstructs 3 ks n z (λ no. omega arith) rule),
       (λ i li s ls lo a la other.
           rule (row a) (row i) (mirror i s) (member-at ks [] a la) (member-at ks [] i li) (member-at (mirrors (row i)) [] s ls)
           (mirror-no-row d unsigned a i s la li lo ls)),
@@ -130,7 +120,7 @@ module _ (ks : List (List ℤ)) (n : ℕ) (z : List ℤ) where
   )
   mirrors-rows (suc (suc (suc (suc zero)))) lo hi d unsigned = (
     (λ rule. (
-      reconstructs-rows d .0 (rule-reconstructs 4 (λ no. omega arith) rule),
+      reconstructs-rows d .0 (rule-reconstructs 4 ks n z (λ no. omega arith) rule),
       (λ i li s ls lo a la other.
           rule (row a) (row i) (mirror i s) (member-at ks [] a la) (member-at ks [] i li)
           (places-differ ks [] a i d la li (other (λ no. omega arith))) (member-at (mirrors (row i)) [] s ls)),
@@ -226,7 +216,7 @@ module _ (d : ℕ) (xs : List ℤ) (n : ℕ) (z owners : List ℕ) where
 
   -- two rows have one residue, so none of the plans holds
   pub recorded-breaks : (plan : ℕ) (r : Bool) → plan ≢ 0 → r ≡ false → Recorded n z (indexList d xs) owners r → Decides false (Admissible (indexList d xs) n (map pos z) plan)
-  recorded-breaks plan r some e o = decides-no (λ rule. o .clash e (rule-reconstructs (indexList d xs) n (map pos z) plan some rule))
+  recorded-breaks plan r some e o = decides-no (λ rule. o .clash e (rule-reconstructs plan (indexList d xs) n (map pos z) some rule))
 
 -- ---- mirror number t of row i, by the table of the owners of all rows
 module _ (d : ℕ) (xs : List ℤ) (n : ℕ) (z table : List ℕ) (i : ℕ) (ready : Ready d xs n z table) (l : i < rowCount d xs) (k : List ℤ) (out : List ℕ) (t : ℕ)

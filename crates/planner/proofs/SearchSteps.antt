@@ -341,7 +341,7 @@ searched-length {d = d} {runs = runs} {shape = shape} l =
 pub few-numbers : {plan d top : ℕ} {runs : List ℤ} {shape : List ℕ} → Levels plan d top runs shape → (n : ℕ) (x : List ℕ) → 0 < plan → 0 < n → n < getD shape d 0 / d → Decided plan d (searched d runs shape) n x false
 few-numbers {plan = plan} {d = d} {runs = runs} {shape = shape} l n x h i less = record {
   found = false-true;
-  none = λ _. few-hopeless plan d (searched d runs shape) n h (l .plans) (l .different) i (omega (arith, searched-length l));
+  none = λ _. few-hopeless plan d (searched d runs shape) n (λ e. omega arith) (l .different) i (omega (arith, searched-length l));
 }
 
 -- the rows that are 0 throughout fail

@@ -31,17 +31,17 @@ abbrev pub RowsApart : ℕ → ℕ → List ℤ → List (List ℤ) → Type 0
 RowsApart plan n z ks = (k k′ s : List ℤ) → List·Memᴰ k ks → List·Memᴰ k′ ks → k ≢ k′ → List·Memᴰ s (mirrorsUnder plan k′) → residueAt n z s ≢ residueAt n z k
 
 -- the rules of plans 1 to 4 ask for it, those of plans 2 and 3 because rows without negative components share no mirror
-pub rows-apart : (plan n : ℕ) (z : List ℤ) (ks : List (List ℤ)) → 1 ≤ plan → (2 ≤ plan → (k : List ℤ) → List·Memᴰ k ks → Nonnegative k) → Admissible ks n z plan → RowsApart plan n z ks
+pub shares-apart : (plan n : ℕ) (z : List ℤ) (ks : List (List ℤ)) → 1 ≤ plan → (2 ≤ plan → (k : List ℤ) → List·Memᴰ k ks → Nonnegative k) → Admissible ks n z plan → RowsApart plan n z ks
 unfolding Reconstructs PlanA PlanB PlanC
-rows-apart zero n z ks l p r k k′ s m m′ d i = absurd (omega arith)
-rows-apart (suc zero) n z ks l p r k k′ s m m′ d i = λ e. r k k′ m m′ d (sym e ∙ ap (residueAt n z) (List·Memᴰ·eq-of-singleton i))
-rows-apart (suc (suc zero)) n z ks l p r k k′ s m m′ d i =
+shares-apart zero n z ks l p r k k′ s m m′ d i = absurd (omega arith)
+shares-apart (suc zero) n z ks l p r k k′ s m m′ d i = λ e. r k k′ m m′ d (sym e ∙ ap (residueAt n z) (List·Memᴰ·eq-of-singleton i))
+shares-apart (suc (suc zero)) n z ks l p r k k′ s m m′ d i =
     r s k (mirrored-in ks k′ s m′ i) (mirrored-in ks k k m (mirror-self k))
     (mirrors-differ s k k′ k (p (omega arith) k′ m′) (p (omega arith) k m) (λ e. d (sym e)) i (mirror-self k))
-rows-apart (suc (suc (suc zero))) n z ks l p r k k′ s m m′ d i =
+shares-apart (suc (suc (suc zero))) n z ks l p r k k′ s m m′ d i =
     r k k′ s m m′ i (mirrors-differ s k k′ k (p (omega arith) k′ m′) (p (omega arith) k m) (λ e. d (sym e)) i (mirror-self k))
-rows-apart (suc (suc (suc (suc zero)))) n z ks l p r k k′ s m m′ d i = r k k′ s m m′ d i
-rows-apart (suc (suc (suc (suc (suc q))))) n z ks l p r k k′ s m m′ d i = absurd r
+shares-apart (suc (suc (suc (suc zero)))) n z ks l p r k k′ s m m′ d i = r k k′ s m m′ d i
+shares-apart (suc (suc (suc (suc (suc q))))) n z ks l p r k k′ s m m′ d i = absurd r
 
 -- what gathering asks of a sum s for a row whose count is c
 abbrev passes : ℤ → ℕ → Bool
@@ -104,11 +104,11 @@ module _ (plan n : ℕ) (z : List ℤ) where
 module _ (plan n : ℕ) (z : List ℤ) (ks : List (List ℤ)) (terms : List ℤ) (from : 1 ≤ plan) (l : 0 < n) (d : Distinct ks) (p : 2 ≤ plan → (k : List ℤ) → List·Memᴰ k ks → Nonnegative k) (r : Admissible ks n z plan) (e : length terms ≡ length ks) where
   -- gathering after spreading gives the terms back
   pub gather-spread : gatheredTerms plan n z ks (spreadSums plan n z ks terms) ≡ terms
-  gather-spread = gather-apart plan n z ks terms l d (rows-apart plan n z ks from p r) e
+  gather-spread = gather-apart plan n z ks terms l d (shares-apart plan n z ks from p r) e
 
   -- and is never refused with 11
   pub gather-passes : ((a : ℤ) → List·Memᴰ a terms → mag a < 2 ^ 31) → every (gathers plan n z (spreadSums plan n z ks terms)) ks ≡ true
-  gather-passes = passes-apart plan n z ks terms l d (rows-apart plan n z ks from p r) e
+  gather-passes = passes-apart plan n z ks terms l d (shares-apart plan n z ks from p r) e
 
 -- ---- gathering reads the rows' sums alone
 module _ (plan n : ℕ) (z : List ℤ) (ks : List (List ℤ)) (s u : List ℤ) (same : (k : List ℤ) → List·Memᴰ k ks → getD s (residueAt n z k) (pos 0) ≡ getD u (residueAt n z k) (pos 0)) where

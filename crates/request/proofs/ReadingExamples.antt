@@ -5,11 +5,6 @@ use lib.IntN.{pos, negsuc}
 use Rattle.request.specs.Reading.{refused, request, reading}
 
 -- ---- the example of the ticket program, and other requests
--- the printed example: `4 1 3 10⏎0⏎1⏎2⏎`
-pub printed : reading (52 ∷ 32 ∷ 49 ∷ 32 ∷ 51 ∷ 32 ∷ 49 ∷ 48 ∷ 10 ∷ 48 ∷ 10 ∷ 49 ∷ 10 ∷ 50 ∷ 10 ∷ []) ≡ request 4 1 10 (pos 0 ∷ pos 1 ∷ pos 2 ∷ [])
-unfolding reading
-printed = refl
-
 -- two axes, a minus: `1 2 2 8192⏎0 -255⏎7 10⏎`
 pub two-axes : reading (49 ∷ 32 ∷ 50 ∷ 32 ∷ 50 ∷ 32 ∷ 56 ∷ 49 ∷ 57 ∷ 50 ∷ 10 ∷ 48 ∷ 32 ∷ 45 ∷ 50 ∷ 53 ∷ 53 ∷ 10 ∷ 55 ∷ 32 ∷ 49 ∷ 48 ∷ 10 ∷ []) ≡ request 1 2 8192 (pos 0 ∷ negsuc 254 ∷ pos 7 ∷ pos 10 ∷ [])
 unfolding reading

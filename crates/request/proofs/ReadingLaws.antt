@@ -31,7 +31,7 @@ use Rattle.request.specs.Text.{space, newline, minus, isDigit, digits, d
 use Rattle.request.specs.Reading.{Parsed, bad, got, andThen, expect, readLine, readNumber, negated, unsigned, readSigned, readRows, Reading, refused, request, afterRows, headRefusal, unless, afterHead, reading}
 use Rattle.request.specs.Inner.{before, clamped, clampedCeiling, signed, separatorOf, NumberIs, ComponentIs, LineIs, RunIs, AskedIs}
 use Rattle.request.proofs.NumberLaws.{both-true}
-use Rattle.request.proofs.RequestLaws.{HeadIn}
+use Rattle.request.proofs.RequestLaws.{HeadIn, members-got, line-members, rows-members}
 
 -- ---- tests
 module _ {A : Type 0} where
@@ -357,19 +357,6 @@ module _ {A : Type 0} (field : List ℕ → Parsed A) where
   pub line-got : (k : ℕ) (s : List ℕ) (a : A) (t : List ℕ) → before (separatorLeft k) (field s) ≡ got a t → lineLeft field (suc k) s ≡ prepend (a ∷ []) (lineLeft field k t)
   line-got k s a t e = line-more k s ∙ ap (λ (p : Parsed A). andThen p (λ a t. prepend (a ∷ []) (lineLeft field k t))) e
 
-  -- a line of k fields has k fields
-  pub line-length : (k : ℕ) (s : List ℕ) (xs : List A) (t : List ℕ) → lineLeft field k s ≡ got xs t → length xs ≡ k
-  line-length zero s xs t e = let nil : [] ≡ xs = cc in ap length (sym nil)
-  line-length (suc k) s xs t e = go (before (separatorLeft k) (field s)) (line-length k) (sym (line-more k s) ∙ e)
-    where
-      rest : (a : A) (u : List ℕ) (q : Parsed (List A)) → ((ys : List A) (v : List ℕ) → q ≡ got ys v → length ys ≡ k) → prepend (a ∷ []) q ≡ got xs t → length xs ≡ suc k
-      rest a u bad h e = absurd (let z : _≡_ {A = ℕ} 0 1 = cc in omega arith)
-      rest a u (got ys v) h e = let same : a ∷ ys ≡ xs = cc in ap length (sym same) ∙ ap suc (h ys v refl)
-
-      go : (p : Parsed A) → ((s : List ℕ) (ys : List A) (u : List ℕ) → lineLeft field k s ≡ got ys u → length ys ≡ k) → andThen p (λ a t. prepend (a ∷ []) (lineLeft field k t)) ≡ got xs t → length xs ≡ suc k
-      go bad h e = absurd (let z : _≡_ {A = ℕ} 0 1 = cc in omega arith)
-      go (got a u) h e = rest a u (lineLeft field k u) (h u) e
-
   -- p is some fields and then what is left of the line: the whole line, one field more, a field out of form, the line's end
   pub left-all : (d : ℕ) (s : List ℕ) → 1 ≤ d → readLine field d s ≡ prepend [] (lineLeft field d s)
   left-all d s l = line-all d s l ∙ prepend-none (lineLeft field d s)
@@ -652,7 +639,7 @@ rows-stop text at d m old rows i place so-far l e =
 pub rows-more : (text : List ℕ) (at d m : ℕ) (old rows new : List ℤ) (i place behind : ℕ) → RowsSoFar text at d m old rows i place → i < m → 1 ≤ d → length new ≡ length rows → RunGot text (readLine readSigned d (drop place text)) (i * d) rows new behind → RowsSoFar text at d m old new (i + 1) behind
 rows-more text at d m old rows new i place behind so-far l some kept row =
     let k = m - suc i in
-    let long : length (row .run) ≡ d = line-length readSigned d (drop place text) (row .run) (drop behind text) (sym (line-all readSigned d (drop place text) some) ∙ row .parsed) in
+    let long : length (row .run) ≡ d = members-got d (readLine readSigned d (drop place text)) (row .run) (drop behind text) (line-members readSigned d (drop place text)) (row .parsed) in
     let left : k ≡ m - (i + 1) = omega arith in
     let next : (i + 1) * d ≡ i * d + length (row .run) = omega (arith, long) in
     record {
@@ -683,22 +670,6 @@ rows-end text at d m old rows i place so-far l h =
       written = ap (λ (n : ℕ). take n rows) (zero-add (length (so-far .run)) ∙ so-far .size) ∙ so-far .written;
     }
 
--- m rows of d fields are m times d numbers
-pub rows-length : (d m : ℕ) (s : List ℕ) (run : List ℤ) (t : List ℕ) → readRows d m s ≡ got run t → 1 ≤ d → length run ≡ m * d
-rows-length d zero s run t e some = let nil : [] ≡ run = cc in ap length (sym nil) ∙ sym (zero-mul d)
-rows-length d (suc m) s run t e some = go (readLine readSigned d s) refl e (rows-length d m)
-  where
-    rest : (row : List ℤ) → length row ≡ d → (q : Parsed (List ℤ)) → ((ys : List ℤ) (v : List ℕ) → q ≡ got ys v → length ys ≡ m * d) → prepend row q ≡ got run t → length run ≡ suc m * d
-    rest row long bad h e = absurd (let z : _≡_ {A = ℕ} 0 1 = cc in omega arith)
-    rest row long (got ys v) h e =
-        let same : row ++ ys ≡ run = cc in
-        ap length (sym same) ∙ length-append row ys ∙ ap (λ (n : ℕ). length row + n) (h ys v refl) ∙ ap (λ (n : ℕ). n + m * d) long ∙ add-comm d (m * d) ∙ sym (suc-mul m d)
-
-    go : (p : Parsed (List ℤ)) → readLine readSigned d s ≡ p → andThen p (λ k r. prepend k (readRows d m r)) ≡ got run t → ((s : List ℕ) (ys : List ℤ) (u : List ℕ) → readRows d m s ≡ got ys u → 1 ≤ d → length ys ≡ m * d) → length run ≡ suc m * d
-    go bad p e h = absurd (let z : _≡_ {A = ℕ} 0 1 = cc in omega arith)
-    go (got row u) p e h =
-        rest row (line-length readSigned d s row u (sym (line-all readSigned d s some) ∙ p)) (readRows d m u) (λ ys v q. h u ys v q some) e
-
 -- ---- what was asked
 -- a refusal
 pub asked-refused : (r : Reading) (k j : ℕ) (rows : List ℤ) → r ≡ refused k → j ≡ k → AskedIs r rows (askeds.Refused j)
@@ -716,7 +687,7 @@ body-end text plan d ceiling at p run e l = ap (afterRows plan d ceiling) (e ∙
 
 pub body-asked : (text s : List ℕ) (plan d m ceiling c at : ℕ) (old rows : List ℤ) → HeadIn plan d m → RunGot text (readRows d m s) 0 old rows at → length text ≤ at → c ≡ clampedCeiling ceiling → AskedIs (afterRows plan d ceiling (readRows d m s)) rows (askeds.Request plan d m c)
 body-asked text s plan d m ceiling c at old rows head row l e =
-    let size : m * d ≡ length (row .run) = sym (rows-length d m s (row .run) (drop at text) (row .parsed) (head .axes .0)) in
+    let size : m * d ≡ length (row .run) = sym (members-got (m * d) (readRows d m s) (row .run) (drop at text) (rows-members d m s) (row .parsed)) in
     subst (λ (q : Reading). AskedIs q rows (askeds.Request plan d m c)) (sym (body-end text plan d ceiling at (readRows d m s) (row .run) (row .parsed) l)) (
       refl,
       refl,

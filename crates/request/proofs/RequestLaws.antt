@@ -1,6 +1,6 @@
 -- What a text asks, in bounds: a refusal's number is at most 12; a request has a plan from 0 to 4, 1 to 6 axes, and a run of m × d
 -- numbers with m from 1 to 512.
-use mathlib.Core.Path.{_≡_, refl, sym, _∙_, ap}
+use mathlib.Core.Path.{_≡_, refl, sym, _∙_, ap, subst}
 use mathlib.Core.Bool.{Bool, true, false, cond, not}
 use mathlib.Core.List.{List, [], _∷_}
 use Prim.Native.Nat.{ℕ, zero, suc, _*_, _≤_}
@@ -18,7 +18,7 @@ use Rattle.request.proofs.NumberLaws.{both-true}
 -- ---- how many fields are read
 module _ {A : Type 0} where
   -- what was parsed has k members
-  abbrev Members : ℕ → Parsed (List A) → Type 0
+  abbrev pub Members : ℕ → Parsed (List A) → Type 0
   Members k bad = Unit {0}
   Members k (got xs s) = length xs ≡ k
 
@@ -43,8 +43,12 @@ module _ {A B : Type 0} where
   members-after j k bad next m h = tt
   members-after j k (got xs s) next m h = h xs s m
 
+-- so it is where the fields are known
+pub members-got : {A : Type 0} (k : ℕ) (p : Parsed (List A)) (xs : List A) (s : List ℕ) → Members k p → p ≡ got xs s → length xs ≡ k
+members-got k p xs s m e = subst (Members k) e m
+
 -- a line of k fields gives k of them
-line-members : {A : Type 0} (field : List ℕ → Parsed A) (k : ℕ) (s : List ℕ) → Members k (readLine field k s)
+pub line-members : {A : Type 0} (field : List ℕ → Parsed A) (k : ℕ) (s : List ℕ) → Members k (readLine field k s)
 line-members field zero s = tt
 line-members field (suc zero) s = members-then 1 (field s) _ (λ a r. members-expect 1 10 (λ t. got (a ∷ []) t) r (λ t. refl))
 line-members {A = A} field (suc (suc k)) s =
@@ -53,7 +57,7 @@ line-members {A = A} field (suc (suc k)) s =
     (λ t. members-after (suc k) (suc (suc k)) (readLine field (suc k) t) _ (line-members field (suc k) t) (λ xs u e. ap suc e)))
 
 -- m lines of d fields give m × d
-rows-members : (d m : ℕ) (s : List ℕ) → Members (m * d) (readRows d m s)
+pub rows-members : (d m : ℕ) (s : List ℕ) → Members (m * d) (readRows d m s)
 rows-members d zero s = sym (zero-mul d)
 rows-members d (suc m) s =
     members-after d (suc m * d) (readLine readSigned d s) _ (line-members readSigned d s)
