@@ -49,9 +49,9 @@ pub fn check(plan: u8, d: usize, rows: &[i16], n: u16, z: &[u16]) -> Verdict
 pub fn residue_map(plan: u8, d: usize, rows: &[i16], n: u16, z: &[u16], out: &mut [u16]) -> u8
     ensures { λ r. ⌜ Answered (mapRefusal plan d (now (rows .entry)) n (now (z .entry)) (length (now (out .entry)))) (residueMap plan n (map pos (now (z .entry))) (indexList d (now (rows .entry)))) (now (out .entry)) (now (out .exit)) r ⌝ }
 {
-    let number = tables::map_refusal(plan, d, rows, n, z, out.len());
-    if number != 0 {
-        return number;
+    let map_refused = tables::map_refusal(plan, d, rows, n, z, out.len());
+    if map_refused != 0 {
+        return map_refused;
     }
     let mut products = [0u16; 3072];
     products::prepare(z, n, products::largest(rows), &mut products);
@@ -71,9 +71,9 @@ pub fn spread(
 ) -> u8
     ensures { λ r. ⌜ Answered (spreadRefusal plan d (now (rows .entry)) n (now (z .entry)) (length (now (terms .entry))) (length (now (sums .entry)))) (spreadSums plan n (map pos (now (z .entry))) (indexList d (now (rows .entry))) (now (terms .entry))) (now (sums .entry)) (now (sums .exit)) r ⌝ }
 {
-    let refused = tables::spread_refusal(plan, d, rows, n, z, terms.len(), sums.len());
-    if refused != 0 {
-        return refused;
+    let spread_refused = tables::spread_refusal(plan, d, rows, n, z, terms.len(), sums.len());
+    if spread_refused != 0 {
+        return spread_refused;
     }
     let mut products = [0u16; 3072];
     products::prepare(z, n, products::largest(rows), &mut products);
@@ -93,9 +93,9 @@ pub fn gather(
 ) -> u8
     ensures { λ r. ⌜ Answered (gatherRefusal plan d (now (rows .entry)) n (now (z .entry)) (now (sums .entry)) (length (now (terms .entry)))) (gatheredTerms plan n (map pos (now (z .entry))) (indexList d (now (rows .entry))) (now (sums .entry))) (now (terms .entry)) (now (terms .exit)) r ⌝ }
 {
-    let refused = tables::spread_refusal(plan, d, rows, n, z, terms.len(), sums.len());
-    if refused != 0 {
-        return refused;
+    let gather_refused = tables::spread_refusal(plan, d, rows, n, z, terms.len(), sums.len());
+    if gather_refused != 0 {
+        return gather_refused;
     }
     let mut products = [0u16; 3072];
     products::prepare(z, n, products::largest(rows), &mut products);
@@ -110,9 +110,9 @@ pub fn gather(
 pub fn point_list(plan: u8, d: usize, n: u16, z: &[u16], out: &mut [u16]) -> u8
     ensures { λ r. ⌜ Answered (pointRefusal plan d n (now (z .entry)) (length (now (out .entry)))) (pointList plan n (now (z .entry))) (now (out .entry)) (now (out .exit)) r ⌝ }
 {
-    let refused = tables::point_refusal(plan, d, n, z, out.len());
-    if refused != 0 {
-        return refused;
+    let points_refused = tables::point_refusal(plan, d, n, z, out.len());
+    if points_refused != 0 {
+        return points_refused;
     }
     points::write_points(plan, d, n, z, out);
     0

@@ -176,6 +176,13 @@ zero-difference n x y h e =
 pub same-residue : (n : ℕ) (x y : ℤ) → 0 < n → (residue n x ≡ residue n y) ↔ Congruent n x y
 same-residue n x y h = (equal-residues n x y h, congruent-residues n x y h)
 
+-- the residue differs from x by a multiple of n, and no other number below n does
+pub residue-congruent : (n : ℕ) (x : ℤ) → 0 < n → Congruent n x (pos (residue n x))
+residue-congruent n x h = record { times = quotient n x; is = euclid n x h }
+
+pub residue-unique : (n : ℕ) (x : ℤ) (r : ℕ) → r < n → Congruent n x (pos r) → residue n x ≡ r
+residue-unique n x r l c = congruent-residues n x (pos r) (omega arith) c ∙ mod-eq-of-lt l
+
 -- document 01's own example
 pub minus-seven : residue 4 (negsuc 6) ≡ 1
 minus-seven = refl
