@@ -11,7 +11,7 @@ use borrow.Author.Count.{below-more}
 use borrow.Rule.Slice.PartMut.{putMid, same-len-mid}
 use lib.Dec.{T}
 use lib.IntN.{ℤ, pos, natAbs}
-use lib.ListN.{length, getD, take, drop, set, length-append, length-drop, length-set, drop-of-length-le, take-append-drop}
+use lib.ListN.{List·getD-append, length, getD, take, drop, set, length-append, length-drop, length-set, drop-of-length-le, take-append-drop}
 use lib.Seq.{length-take-le, take-all, drop-cons, take-append-le, drop-append-le, drop-at, getD-drop, getD-set-same, getD-set-other, paste, take-paste, length-paste}
 use Rattle.rank1.specs.Tests.{every, sameNumber}
 use Rattle.rank1.specs.Index.{rowsOf, rowCount, indexList}
@@ -20,7 +20,7 @@ use Rattle.rank1.proofs.TestLaws.{true-holds, holds-true, fails-false, both, jo
 use Rattle.rank1.proofs.IndexLaws.{rows-length, member-length, rows-snoc}
 use Rattle.planner.specs.Inner.{Covered, ZeroFrom}
 use Rattle.planner.proofs.ProductLaws.{covered-take, covered-drop}
-use Rattle.planner.specs.Stage.{zeroFrom, ending, levelRun, searched, Level, Kept, Swaps, Levels}
+use Rattle.planner.specs.Stage.{zeroFrom, ending, levelRun, searched, Level, Kept, Swaps, LevelsTo, Levels, Groups}
 
 -- ---- rows that are 0 from an axis on
 -- every number is 0 just where each place holds 0
@@ -248,15 +248,6 @@ keep-all d j i xs old new at e w s = record {
 }
 
 -- ---- the levels, one after the other
--- the levels before j hold the rows of xs that end by their axes
-pub record LevelsTo (d top j : ℕ) (xs runs : List ℤ) (shape : List ℕ) : Type 0 where
-  pub tall : length shape ≡ 43
-  pub swaps : Swaps d (indexList d xs) shape
-  pub long : length runs ≡ 21504
-  pub covers : Covered top runs
-  pub few : (i : ℕ) → i < j → getD shape i 0 ≤ 3072
-  pub level : (i : ℕ) → i < j → Level d (ending i (indexList d xs)) (levelRun runs shape i)
-
 pub levels-none : (d top : ℕ) (xs runs : List ℤ) (shape : List ℕ) → length shape ≡ 43 → Swaps d (indexList d xs) shape → length runs ≡ 21504 → Covered top runs → LevelsTo d top 0 xs runs shape
 levels-none d top xs runs shape e w f g = record {
   tall = e;
@@ -272,7 +263,7 @@ part-front : (a n : ℕ) (xs ys : List ℤ) → a + n ≤ length xs → take n (
 part-front a n xs ys l =
     ap (take n) (drop-append-le a xs ys (omega arith)) ∙ take-append-le n (drop a xs) ys (omega (arith, length-drop a xs))
 
-part-before : (a n b : ℕ) (xs ys : List ℤ) → a + n ≤ b → b ≤ length xs → take n (drop a (take b xs ++ ys)) ≡ take n (drop a xs)
+pub part-before : (a n b : ℕ) (xs ys : List ℤ) → a + n ≤ b → b ≤ length xs → take n (drop a (take b xs ++ ys)) ≡ take n (drop a xs)
 part-before a n b xs ys l h =
     part-front a n (take b xs) ys room
     ∙ sym (part-front a n (take b xs) (drop b xs) room)
@@ -342,24 +333,30 @@ pub valid-size : (plan d : ℕ) (xs : List ℤ) → ValidList plan d xs → leng
 valid-size plan d xs v =
     omega (arith, v .whole, mul-le-mul-right {m = rowCount d xs} {n = 512} d (v .few-rows), v .few-axes)
 
--- all levels are set: the last one is the list itself
+-- all levels are set, with the groups behind them: the last one is the list itself
 pub levels-all :
-    (plan d top j : ℕ) (xs runs : List ℤ) (shape : List ℕ) → d < j → plan ≤ 4 → ValidList plan d xs → LevelsTo d top j xs runs shape
-    → Levels plan d top runs shape × (searched d runs shape ≡ indexList d xs)
-levels-all plan d top j xs runs shape l p v s = (
+    (plan d top : ℕ) (xs runs : List ℤ) (shape : List ℕ) (area : List ℤ) (marks : List ℕ) → plan ≤ 4 → ValidList plan d xs
+    → LevelsTo d top (d + 1) xs runs shape → Covered top area → 8 ≤ length marks → Groups plan d (indexList d xs) area marks
+    → Levels plan d top (runs ++ area) (shape ++ marks) × (searched d (runs ++ area) (shape ++ marks) ≡ indexList d xs)
+levels-all plan d top xs runs shape area marks p v s g h groups = (
   record {
     plans = p;
     some-axes = v .some-axes;
     few-axes = v .few-axes;
     few-rows = omega (arith, ap length same, rows-length d (rowCount d xs) xs, v .few-rows);
     different = subst Distinct (sym same) (v .different);
-    unsigned = λ h k m. v .unsigned h k (subst (List·Memᴰ k) same m);
+    unsigned = λ u k m. v .unsigned u k (subst (List·Memᴰ k) same m);
     long = λ k m. long k (subst (List·Memᴰ k) same m);
-    covers = s .covers;
-    tall = s .tall;
-    swaps = subst (λ (ks : List (List ℤ)). Swaps d ks shape) (sym same) (s .swaps);
-    room = λ i h. omega (arith, s .few i (omega arith), s .long, v .few-axes);
-    level = λ i h. subst (λ (ks : List (List ℤ)). Level d (ending i ks) (levelRun runs shape i)) (sym same) (s .level i (omega arith));
+    covers = covered-append top runs area (s .covers) g;
+    tall = omega (arith, length-append shape marks, s .tall);
+    swaps = subst (λ (ks : List (List ℤ)). Swaps d ks (shape ++ marks)) (sym same) (record { known = λ i j l u o. s .swaps .known i j l u (λ e. o (at (7 + i * 6 + j) (omega (arith, v .few-axes)) ∙ e)) });
+    room = λ i l. omega (arith, s .few i (omega arith), at i (omega (arith, v .few-axes)), s .long, v .few-axes, length-append runs area);
+    level = λ i l. subst (λ (ks : List (List ℤ)). Level d (ending i ks) (levelRun (runs ++ area) (shape ++ marks) i)) (sym same) (level i l);
+    wide = omega (arith, length-append runs area, s .long);
+    groups =
+        subst (λ (ks : List (List ℤ)). Groups plan d ks (drop 21504 (runs ++ area)) (drop 43 (shape ++ marks))) (sym same)
+        (subst (λ (xs′ : List ℤ). Groups plan d (indexList d xs) xs′ (drop 43 (shape ++ marks))) (sym (drop-at runs area 21504 (s .long)))
+        (subst (Groups plan d (indexList d xs) area) (sym (drop-at shape marks 43 (s .tall))) groups));
   },
   same,
 )
@@ -367,8 +364,20 @@ levels-all plan d top j xs runs shape l p v s = (
     long : (k : List ℤ) → List·Memᴰ k (indexList d xs) → length k ≡ d
     long k m = member-length d (rowCount d xs) xs k (omega (arith, v .whole)) m
 
-    same : searched d runs shape ≡ indexList d xs
-    same = s .level d l .rows ∙ ending-all d (indexList d xs) long
+    -- the groups behind do not move the levels
+    at : (i : ℕ) → i < 43 → getD (shape ++ marks) i 0 ≡ getD shape i 0
+    at i l = List·getD-append shape marks 0 i (omega (arith, s .tall))
+
+    run : (i : ℕ) → i ≤ d → levelRun (runs ++ area) (shape ++ marks) i ≡ levelRun runs shape i
+    run i l =
+        ap (λ (m : ℕ). take m (drop (i * 3072) (runs ++ area))) (at i (omega (arith, v .few-axes)))
+        ∙ part-front (i * 3072) (getD shape i 0) runs area (omega (arith, s .few i (omega arith), s .long, v .few-axes))
+
+    level : (i : ℕ) → i ≤ d → Level d (ending i (indexList d xs)) (levelRun (runs ++ area) (shape ++ marks) i)
+    level i l = subst (Level d (ending i (indexList d xs))) (sym (run i l)) (s .level i (omega arith))
+
+    same : searched d (runs ++ area) (shape ++ marks) ≡ indexList d xs
+    same = level d (omega arith) .rows ∙ ending-all d (indexList d xs) long
 
 -- ---- what the rule asks of a level
 -- the rows of a run: whole, few, different, without negative components under plans 2 to 4, 0 from axis j on, none too large

@@ -14,3 +14,4 @@ pub mod SumSteps
 pub mod PlanLaws
 pub mod CallTheorems
 pub mod SwapSteps
+pub mod GroupSteps

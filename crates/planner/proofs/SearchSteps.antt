@@ -283,29 +283,33 @@ stage-more {plan = plan} {d = d} {top = top} {n = n} {k = k} {v = v} {z = z} {p 
     here : getD (set z k v) k 0 ≡ v
     here = getD-set-same z k v 0 (omega (arith, s .size))
 
+-- ---- the rule on a run of rows that are 0 from axis k on
+pub run-ready : {plan d top n k : ℕ} {runs : List ℤ} {shape z p o : List ℕ} → Stage plan d top runs shape n k z p o → (xs : List ℤ) → LevelReady plan d top k xs → Ready d xs n (take k z) p
+run-ready {top = top} {k = k} {z = z} s xs ready = record {
+  modulus = s .modulus;
+  some-axes = s .levels .some-axes;
+  few-axes = s .levels .few-axes;
+  whole = ready .whole;
+  few-rows = ready .few-rows;
+  different = ready .different;
+  short = omega (arith, fixed, s .within);
+  ended = λ r m. subst (λ (j : ℕ). ZeroFrom j r) (sym fixed) (ready .ended r m);
+  prepared = record { top = top; covers = ready .covers; products = s .entries };
+}
+  where
+    -- the components that are fixed
+    fixed : length (take k z) ≡ k
+    fixed = length-take-le k z (omega (arith, s .size, s .within))
+
 -- ---- the rule on a level
 module _ {plan d top n k : ℕ} {runs : List ℤ} {shape z p o : List ℕ} (s : Stage plan d top runs shape n k z p o) (xs : List ℤ) (is : xs ≡ levelRun runs shape k) where
   -- its rows are whole, few, different and 0 from there on
   ready : LevelReady plan d top k xs
   ready = subst (LevelReady plan d top k) (sym is) (level-ready plan d top k runs shape (s .levels) (s .within))
 
-  -- the components that are fixed
-  fixed : length (take k z) ≡ k
-  fixed = length-take-le k z (omega (arith, s .size, s .within))
-
   -- what the rule asks
   pub stage-ready : Ready d xs n (take k z) p
-  stage-ready = record {
-    modulus = s .modulus;
-    some-axes = s .levels .some-axes;
-    few-axes = s .levels .few-axes;
-    whole = ready .whole;
-    few-rows = ready .few-rows;
-    different = ready .different;
-    short = omega (arith, fixed, s .within);
-    ended = λ r m. subst (λ (j : ℕ). ZeroFrom j r) (sym fixed) (ready .ended r m);
-    prepared = record { top = top; covers = ready .covers; products = s .entries };
-  }
+  stage-ready = run-ready s xs ready
 
   -- and under plans 2 to 4 no negative component
   pub stage-unsigned : 2 ≤ plan → (r : List ℤ) → List·Memᴰ r (indexList d xs) → Nonnegative r

@@ -10,7 +10,7 @@ use native.Mathlib.Omega.{arith}
 use borrow.Author.Tests.{eq-eqb, ne-eqb}
 use lib.Dec.{eqb}
 use lib.IntN.{ℤ, pos}
-use lib.ListN.{length, getD, take, drop, set, replicate, getD-replicate}
+use lib.ListN.{length, getD, take, drop, set}
 use lib.Seq.{getD-set-other}
 use Rattle.rank1.specs.Index.{rowsOf, rowCount}
 use Rattle.rank1.specs.Search.{First}
@@ -77,8 +77,8 @@ rows-interchange d m i j xs h k listed = go (row-out d m xs k listed)
 
 -- ---- the marks
 -- none yet
-pub swaps-none : (d : ℕ) (ks : List (List ℤ)) → d ≤ 6 → Swaps d ks (replicate 43 0)
-swaps-none d ks few = record { known = λ i j l h marked. absurd (marked (getD-replicate 43 (7 + i * 6 + j) 0 0 (omega arith))) }
+pub swaps-blank : (d : ℕ) (ks : List (List ℤ)) (shape : List ℕ) → ((i : ℕ) → getD shape i 0 ≡ 0) → Swaps d ks shape
+swaps-blank d ks shape h = record { known = λ i j l m marked. absurd (marked (h (7 + i * 6 + j))) }
 
 -- one more: each pair of axes has a place of its own
 pub swaps-more :

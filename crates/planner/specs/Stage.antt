@@ -2,20 +2,22 @@
 use mathlib.Core.Path.{_≡_}
 use mathlib.Core.Bool.{Bool, true, false, cond, _||_}
 use mathlib.Core.List.{List, [], _∷_, map, List·Memᴰ}
-use Prim.Native.Nat.{ℕ, _+_, _*_, _%_, _<_, _≤_}
+use Prim.Native.Nat.{ℕ, _+_, _-_, _*_, _%_, _<_, _≤_}
 use lib.Dec.{eqb}
 use lib.IntN.{ℤ, pos}
 use lib.ListN.{length, getD, take, drop, set}
-use Rattle.rank1.specs.Tests.{every, sameNumber}
+use Rattle.rank1.specs.Tests.{every, sameNumber, sameRow}
 use Rattle.rank1.specs.Index.{rowCount, indexList}
 use Rattle.rank1.specs.Rule.{Admissible}
 use Rattle.rank1.specs.Search.{Before, InRange, First, Hopeless}
 use Rattle.rank1.specs.Valid.{Distinct, Nonnegative, ValidModulus}
 use Rattle.rank1.proofs.SwapLaws.{Interchangeable}
+use Rattle.rank1.proofs.GroupLaws.{zeroAfter}
 use Rattle.planner.specs.Inner.{Products, Covered}
 
--- ---- levels: for each axis j the rows that are 0 from j on, in 3072 places of their own. Their shape is 43 numbers: the sizes of
--- the 7 levels, then the marks of the axes that can change places
+-- ---- levels: for each axis j the rows that are 0 from j on, in 3072 places of their own, 21504 in all; the groups stand behind
+-- them. Their shape begins with 43 numbers: the sizes of the 7 levels, then the marks of the axes that can change places; the
+-- marks of the groups stand behind them
 -- every component from axis j on is 0
 abbrev pub zeroFrom : ℕ → List ℤ → Bool
 zeroFrom j k = every (sameNumber (pos 0)) (drop j k)
@@ -54,6 +56,61 @@ otherAxis i j a = cond (eqb a i) j (cond (eqb a j) i a)
 pub record Swaps (d : ℕ) (ks : List (List ℤ)) (shape : List ℕ) : Type 0 where
   pub known : (i j : ℕ) → i < j → j < d → (getD shape (7 + i * 6 + j) 0 ≡ 0 → ⊥) → Interchangeable i j ks
 
+-- the levels before j hold the rows of xs that end by their axes
+pub record LevelsTo (d top j : ℕ) (xs runs : List ℤ) (shape : List ℕ) : Type 0 where
+  pub tall : length shape ≡ 43
+  pub swaps : Swaps d (indexList d xs) shape
+  pub long : length runs ≡ 21504
+  pub covers : Covered top runs
+  pub few : (i : ℕ) → i < j → getD shape i 0 ≤ 3072
+  pub level : (i : ℕ) → i < j → Level d (ending i (indexList d xs)) (levelRun runs shape i)
+
+-- ---- groups: rows with one later part, with zeros in its place
+-- the rows whose components from axis j on are u
+abbrev pub sharing : ℕ → List ℤ → List (List ℤ) → List (List ℤ)
+sharing j u [] = []
+sharing j u (k ∷ ks) = cond (sameRow u (drop j k)) (k ∷ sharing j u ks) (sharing j u ks)
+
+-- these rows with zeros in place of u
+abbrev pub zeroedGroup : ℕ → List ℤ → List (List ℤ) → List (List ℤ)
+zeroedGroup j u ks = map (zeroAfter j) (sharing j u ks)
+
+-- r numbers at the front of `new` are the rows of xs that share u, zeroed; no number is in `new` that was not there before, in xs
+-- or 0
+pub record Gathered (d j : ℕ) (u xs old new : List ℤ) (r : ℕ) : Type 0 where
+  pub level : Level d (zeroedGroup j u (indexList d xs)) (take r new)
+  pub fits : r ≤ length xs
+  pub covers : (top : ℕ) → Covered top xs → Covered top old → Covered top new
+
+-- the marks of the groups: the groups of level j are those from marks j to marks (j + 1), for j to 6; the run of group g is in the
+-- area from marks (8 + g) to marks (9 + g)
+abbrev pub groupRun : List ℤ → List ℕ → ℕ → List ℤ
+groupRun area marks g = take (getD marks (9 + g) 0 - getD marks (8 + g) 0) (drop (getD marks (8 + g) 0) area)
+
+-- group g is one of level j; plan 0 has none
+pub record GroupAt (plan d j : ℕ) (ks : List (List ℤ)) (area : List ℤ) (marks : List ℕ) (g : ℕ) : Type 0 where
+  pub pairs : 1 ≤ plan
+  pub known : 9 + g < length marks
+  pub upward : getD marks (8 + g) 0 ≤ getD marks (9 + g) 0
+  pub inside : getD marks (9 + g) 0 ≤ length area
+  pub later : List ℤ
+  pub level : Level d (zeroedGroup j later ks) (groupRun area marks g)
+
+pub record Groups (plan d : ℕ) (ks : List (List ℤ)) (area : List ℤ) (marks : List ℕ) : Type 0 where
+  pub group : (j g : ℕ) → j ≤ d → getD marks j 0 ≤ g → g < getD marks (j + 1) 0 → GroupAt plan d j ks area marks g
+
+-- c groups are set, all of the levels before j, and none of the levels behind j
+pub record Grouping (plan d top j c : ℕ) (ks : List (List ℤ)) (area : List ℤ) (marks : List ℕ) : Type 0 where
+  pub tall : length marks ≡ 2569
+  pub covers : Covered top area
+  pub few : c ≤ 2560
+  pub before : (i g : ℕ) → i < j → getD marks i 0 ≤ g → g < getD marks (i + 1) 0 → GroupAt plan d i ks area marks g
+  pub here : (g : ℕ) → getD marks j 0 ≤ g → g < c → GroupAt plan d j ks area marks g
+  pub counted : (i : ℕ) → i ≤ j → getD marks i 0 ≤ c
+  pub none : (i : ℕ) → j < i → i < 8 → getD marks i 0 ≡ 0
+  pub room : getD marks (8 + c) 0 ≤ length area
+  pub ordered : (g : ℕ) → g < c → getD marks (9 + g) 0 ≤ getD marks (8 + c) 0
+
 -- ---- a valid list in levels, no component larger than top
 pub record Levels (plan d top : ℕ) (runs : List ℤ) (shape : List ℕ) : Type 0 where
   pub plans : plan ≤ 4
@@ -64,10 +121,12 @@ pub record Levels (plan d top : ℕ) (runs : List ℤ) (shape : List ℕ) : Type
   pub unsigned : 2 ≤ plan → (k : List ℤ) → List·Memᴰ k (searched d runs shape) → Nonnegative k
   pub long : (k : List ℤ) → List·Memᴰ k (searched d runs shape) → length k ≡ d
   pub covers : Covered top runs
-  pub tall : length shape ≡ 43
+  pub tall : 51 ≤ length shape
   pub swaps : Swaps d (searched d runs shape) shape
   pub room : (j : ℕ) → j ≤ d → j * 3072 + getD shape j 0 ≤ length runs
   pub level : (j : ℕ) → j ≤ d → Level d (ending j (searched d runs shape)) (levelRun runs shape j)
+  pub wide : 21504 ≤ length runs
+  pub groups : Groups plan d (searched d runs shape) (drop 21504 runs) (drop 43 shape)
 
 -- ---- prefixes
 -- y and z have the same components below k

@@ -1,6 +1,7 @@
 // The planner's calls: check, residue map, spread, gather and point list (document 01). Every public call takes any arguments,
 // refuses wrong ones by the numbers of document 01's table, and then leaves what it was lent as it was.
 
+mod groups;
 mod mirrors;
 mod points;
 mod products;

@@ -1,10 +1,12 @@
 // The searches: components are fixed from the first to the last by recursion; the number of unfixed ones falls at each call.
-// Before it goes deeper the search tests the plan's rule on the rows that are 0 from the next axis on: their residues hang on
-// the fixed components alone. Before that it passes over the values of a component that no First vector can have: a first
-// component that neither is 0 nor divides n, under plan A one above n / 2, and one below that of an earlier axis with which its
-// axis can change places. What is known of a vector that the search passes over is that no First vector begins so.
+// Before it goes deeper the search tests the plan's rule on the rows that are 0 from the next axis on, and on the groups of rows
+// that agree from there on (groups.rt): their residues hang on the fixed components alone. Before that it passes over the values
+// of a component that no First vector can have: a first component that neither is 0 nor divides n, under plan A one above n / 2,
+// and one below that of an earlier axis with which its axis can change places. What is known of a vector that the search passes
+// over is that no First vector begins so.
 
 use crate::Plan;
+use crate::groups::set_groups;
 use crate::products::largest;
 use crate::products::row_at;
 use crate::products::set_axis;
@@ -23,7 +25,7 @@ ghost use Rattle.rank1.specs.Valid.{ValidList, ValidModulus};
 ghost use Rattle.rank1.proofs.SwapLaws.{swap, Interchangeable};
 ghost use Rattle.planner.specs.Inner.{Decides, Covered};
 ghost use Rattle.planner.specs.Answer.{PlanBetween};
-ghost use Rattle.planner.specs.Stage.{zeroFrom, searched, otherAxis, Swaps, Levels, Stage, Fine, KeptBelow, Falls, RuledOut, Tried, Completed, Decided, Ascended, Kept};
+ghost use Rattle.planner.specs.Stage.{zeroFrom, searched, otherAxis, Swaps, LevelsTo, Levels, Stage, Fine, NoFirstFrom, KeptBelow, Falls, RuledOut, Tried, Completed, Decided, Ascended, Kept};
 
 // Whether a row is 0 from axis j on.
 fn ends_by(row: &[i16], j: usize) -> bool
@@ -130,13 +132,23 @@ fn set_swaps(d: usize, rows: &[i16], shape: &mut [usize])
 // The levels of a list.
 fn set_levels(plan: u8, d: usize, rows: &[i16], top: usize, runs: &mut [i16], shape: &mut [usize])
     requires { ⌜ (plan ≤ 4) × ValidList plan d (now rows) × Covered top (now rows) × Covered top (now runs) × (length (now runs) ≡ 21504) × (length (now shape) ≡ 43) × Swaps d (indexList d (now rows)) (now shape) ⌝ }
-    ensures { λ _. ⌜ (Levels plan d top (now (runs .exit)) (now (shape .exit))) × (searched d (now (runs .exit)) (now (shape .exit)) ≡ indexList d (now (rows .entry))) ⌝ }
+    ensures { λ _. ⌜ LevelsTo d top (d + 1) (now (rows .entry)) (now (runs .exit)) (now (shape .exit)) ⌝ }
 {
     for j in 0..d + 1 {
         let a = j * 3072;
         let e = a + 3072;
         shape[j] = keep_ending(d, rows, j, &mut runs[a..e]);
     }
+}
+
+// The levels and the groups of a list.
+fn set_up(plan: u8, d: usize, rows: &[i16], top: usize, runs: &mut [i16], shape: &mut [usize])
+    requires { ⌜ (plan ≤ 4) × ValidList plan d (now rows) × Covered top (now rows) × Covered top (now runs) × (length (now runs) ≡ 39936) × (length (now shape) ≡ 2612) × ((i : ℕ) → getD (now shape) i 0 ≡ 0) ⌝ }
+    ensures { λ _. ⌜ (Levels plan d top (now (runs .exit)) (now (shape .exit))) × (searched d (now (runs .exit)) (now (shape .exit)) ≡ indexList d (now (rows .entry))) ⌝ }
+{
+    set_swaps(d, rows, &mut shape[..43]);
+    set_levels(plan, d, rows, top, &mut runs[..21504], &mut shape[..43]);
+    set_groups(plan, d, rows, top, &mut runs[21504..], &mut shape[43..]);
 }
 
 // The rule on the rows that are 0 from axis at on.
@@ -160,6 +172,32 @@ fn rule_at(
     rule_holds(plan, d, &runs[a..e], n, &z[..at], products, owners)
 }
 
+// The rule on the groups of axis at. False where it fails on one: then no first vector begins as z.
+fn groups_hold(
+    plan: u8,
+    d: usize,
+    runs: &[i16],
+    shape: &[usize],
+    top: usize,
+    n: u16,
+    at: usize,
+    z: &[u16],
+    products: &[u16],
+    owners: &mut [u16],
+) -> bool
+    requires { ⌜ Stage plan d top (now runs) (now shape) n at (now z) (now products) (now owners) ⌝ }
+    ensures { λ r. ⌜ (r ≡ false → NoFirstFrom plan d (searched d (now (runs .entry)) (now (shape .entry))) n at (now (z .entry))) ⌝ }
+{
+    for g in shape[43 + at]..shape[44 + at] {
+        let a = 21504 + shape[51 + g];
+        let e = 21504 + shape[52 + g];
+        if !rule_holds(plan, d, &runs[a..e], n, &z[..at], products, owners) {
+            return false;
+        }
+    }
+    true
+}
+
 // Whether v can be the first component of a first vector at n: it is 0 or divides n.
 fn can_lead(v: u16, n: u16) -> bool
     ensures { λ r. ⌜ r ≡ (eqb v 0 || eqb (n % v) 0) ⌝ }
@@ -172,7 +210,7 @@ fn can_lead(v: u16, n: u16) -> bool
 
 // Whether v is below the component of an earlier axis with which axis at can change places.
 fn falls(shape: &[usize], at: usize, v: u16, z: &[u16]) -> bool
-    requires { ⌜ (length (now shape) ≡ 43) × (at < 6) × (at ≤ length (now z)) ⌝ }
+    requires { ⌜ (43 ≤ length (now shape)) × (at < 6) × (at ≤ length (now z)) ⌝ }
     ensures { λ r. ⌜ (r ≡ true → Falls (now (shape .entry)) at v (now (z .entry))) ⌝ }
 {
     for i in 0..at {
@@ -187,7 +225,7 @@ fn falls(shape: &[usize], at: usize, v: u16, z: &[u16]) -> bool
 
 // Whether no first vector that begins as z has v at axis at, whatever the rows there.
 fn ruled_out(plan: u8, shape: &[usize], n: u16, at: usize, v: u16, z: &[u16]) -> bool
-    requires { ⌜ (length (now shape) ≡ 43) × (at < 6) × (at ≤ length (now z)) × (v < 8192) ⌝ }
+    requires { ⌜ (43 ≤ length (now shape)) × (at < 6) × (at ≤ length (now z)) × (v < 8192) ⌝ }
     ensures { λ r. ⌜ (r ≡ true → RuledOut plan (now (shape .entry)) n at v (now (z .entry))) ⌝ }
 {
     if at == 0 {
@@ -202,7 +240,7 @@ fn ruled_out(plan: u8, shape: &[usize], n: u16, at: usize, v: u16, z: &[u16]) ->
 }
 
 // Sets component at to v. False where no first vector begins so: the value is ruled out, or the rule fails on the rows that end
-// there.
+// there or on a group there.
 fn try_component(
     plan: u8,
     d: usize,
@@ -225,7 +263,10 @@ fn try_component(
         return false;
     }
     set_axis(products, at, v, n, top);
-    rule_at(plan, d, runs, shape, top, n, at + 1, z, products, owners)
+    if !rule_at(plan, d, runs, shape, top, n, at + 1, z, products, owners) {
+        return false;
+    }
+    groups_hold(plan, d, runs, shape, top, n, at + 1, z, products, owners)
 }
 
 // Completes z from component at on.
@@ -336,14 +377,13 @@ pub(crate) fn first_plan(
     requires { ⌜ (plan ≤ 4) × ValidList plan d (now rows) × (1 ≤ low) × (high ≤ 8192) × (length (now z) ≡ d) ⌝ }
     ensures { λ r. ⌜ PlanBetween plan d (indexList d (now (rows .entry))) low high (now (z .entry)) (now (z .exit)) r ⌝ }
 {
-    let mut runs = [0i16; 21504];
-    let mut shape = [0usize; 43];
+    let mut runs = [0i16; 39936];
+    let mut shape = [0usize; 2612];
     let mut products = [0u16; 3072];
     let mut owners = [0u16; 8192];
     let mut x = [0u16; 6];
     let top = largest(rows);
-    set_swaps(d, rows, &mut shape);
-    set_levels(plan, d, rows, top, &mut runs, &mut shape);
+    set_up(plan, d, rows, top, &mut runs, &mut shape);
     let n = first_modulus(
         plan,
         d,

@@ -1,5 +1,5 @@
 -- `planner::search::first_plan` meets its contract. The levels begin as zeros, so no number in them is larger than the list's
--- largest, and no axes are marked; the vector is built in the first d of six places, which the call of `first_modulus` leaves in front of the others.
+-- largest, and no axes or groups are marked; the vector is built in the first d of six places, which the call of `first_modulus` leaves in front of the others.
 use mathlib.Core.Path.{_≡_, refl, sym, ap, _∙_, subst}
 use mathlib.Core.List.{List, _++_}
 use Prim.Native.Nat.{ℕ}
@@ -10,7 +10,7 @@ use lib.Seq.{length-take-le, length-front, take-at}
 use Rattle.rank1.specs.Index.{indexList}
 use Rattle.planner.specs.Stage.{Ascended}
 use Rattle.planner.proofs.PlanLaws.{covered-zeros, ascended-none, ascended-found}
-use Rattle.planner.proofs.SwapSteps.{swaps-none}
+use Rattle.planner.proofs.GroupSteps.{blank}
 use Rattle.planner.proofs.search.first_plan.Statement.{statement}
 use Rattle.planner.proofs.search.first_plan.Tie as tie
 
@@ -20,7 +20,7 @@ six = replicate 6 0
 
 -- the function's entry, as `first_modulus` is called
 abbrev start-of : tie.After-owners → tie.Start
-start-of c = c .before .before .before .before .before .before .before .before .before .before .before .before .before .before .before
+start-of c = c .before .before .before .before .before .before .before .before .before .before .before .before
 
 -- d of the six places are lent
 front-size : (c : tie.After-owners) → length (take (start-of c .args .d) six) ≡ start-of c .args .d
@@ -45,33 +45,23 @@ searched-list : (c : tie.After-first-modulus) → Ascended (start-of (c .before)
 searched-list c =
     let s = start-of (c .before) .args in
     subst (λ ks. Ascended (s .plan) (s .d) ks (s .low) (s .high) (vector-of c) (c .first-modulus .result))
-    (c .before .before .before .before .before .before .before .before .set-levels .ensures .1)
+    (c .before .before .before .before .before .before .before .before .set-up .ensures .1)
     (c .first-modulus .ensures)
 
 largest-requires : tie.Need-largest-requires
 largest-requires c κs = search needs
 
-slice-aggregate-set-swaps : tie.Need-slice-aggregate-set-swaps
-slice-aggregate-set-swaps c = search needs
+slice-aggregate-set-up : tie.Need-slice-aggregate-set-up
+slice-aggregate-set-up c = search needs
 
-set-swaps-requires : tie.Need-set-swaps-requires
-set-swaps-requires c κs =
-    let s = c .before .before .before in
-    let list = s .pre .1 in
-    (list .some-axes, list .few-axes, list .whole, refl, swaps-none (s .args .d) (indexList (s .args .d) (s .args .rows .now)) (list .few-axes))
+slice-aggregate-set-up-2 : tie.Need-slice-aggregate-set-up-2
+slice-aggregate-set-up-2 c = search needs
 
-slice-aggregate-set-levels : tie.Need-slice-aggregate-set-levels
-slice-aggregate-set-levels c = search needs
-
-slice-aggregate-set-levels-2 : tie.Need-slice-aggregate-set-levels-2
-slice-aggregate-set-levels-2 c = search needs
-
-set-levels-requires : tie.Need-set-levels-requires
-set-levels-requires c κs =
-    let swaps = c .before .before .before .set-swaps in
-    let top = c .before .before .before .before .before .largest in
-    let pre = c .before .before .before .before .before .before .before .pre in
-    (pre .0, pre .1, top .ensures, covered-zeros (top .result) 21504 (top .ensures .narrow), refl, swaps .kept .1 .1 .0, swaps .ensures)
+set-up-requires : tie.Need-set-up-requires
+set-up-requires c κs =
+    let top = c .before .before .largest in
+    let pre = c .before .before .before .before .pre in
+    (pre .0, pre .1, top .ensures, covered-zeros (top .result) 39936 (top .ensures .narrow), refl, refl, blank 2612)
 
 slice-aggregate-first-modulus : tie.Need-slice-aggregate-first-modulus
 slice-aggregate-first-modulus c = search needs
@@ -84,7 +74,7 @@ array-borrow-prefix-x c = search needs
 
 slice-aggregate-first-modulus-3 : tie.Need-slice-aggregate-first-modulus-3
 slice-aggregate-first-modulus-3 c =
-    let s = c .before .before .before .before .before .before .before .before .before .before .before .before .before in
+    let s = c .before .before .before .before .before .before .before .before .before .before in
     sym (length-take-le (s .args .d) six (s .pre .1 .few-axes))
 
 slice-aggregate-first-modulus-4 : tie.Need-slice-aggregate-first-modulus-4
@@ -96,7 +86,7 @@ slice-aggregate-first-modulus-5 c = search needs
 first-modulus-requires : tie.Need-first-modulus-requires
 first-modulus-requires c κs =
     let pre = start-of c .pre in
-    (c .before .before .before .before .before .before .before .set-levels .ensures .0, (pre .2, pre .3, front-size c, refl, refl))
+    (c .before .before .before .before .before .before .before .set-up .ensures .0, (pre .2, pre .3, front-size c, refl, refl))
 
 returns : tie.Need-returns
 returns c =
@@ -134,11 +124,9 @@ first-plan-spec =
     tie.close
     (tie.spec
     largest-requires
-    slice-aggregate-set-swaps
-    set-swaps-requires
-    slice-aggregate-set-levels
-    slice-aggregate-set-levels-2
-    set-levels-requires
+    slice-aggregate-set-up
+    slice-aggregate-set-up-2
+    set-up-requires
     slice-aggregate-first-modulus
     slice-aggregate-first-modulus-2
     array-borrow-prefix-x

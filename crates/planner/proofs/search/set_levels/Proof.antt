@@ -1,8 +1,9 @@
 -- `planner::search::set_levels` meets its contract. The invariant: the levels before j are set. Measure: the levels left.
-use mathlib.Core.Path.{_≡_, refl}
-use Prim.Native.Nat.{_+_, _*_, _≤_, _-_, zero-le}
+use mathlib.Core.Path.{_≡_, refl, subst}
+use Prim.Native.Nat.{ℕ, _+_, _*_, _≤_, _-_, zero-le}
 use native.Mathlib.Omega.{arith}
-use Rattle.planner.proofs.LevelLaws.{LevelsTo, levels-none, levels-more, levels-all, part-size, valid-size}
+use Rattle.planner.specs.Stage.{LevelsTo}
+use Rattle.planner.proofs.LevelLaws.{levels-none, levels-more, part-size, valid-size}
 use borrow.Author.Needs.{needs}
 use Rattle.planner.proofs.search.set_levels.Statement.{statement}
 use Rattle.planner.proofs.search.set_levels.Tie as tie
@@ -82,9 +83,9 @@ same-length-2 c = search needs
 
 returns : tie.Need-returns Inv-loop μ-loop
 returns c =
-    let s = c .before .before .before in
+    let s = c .before .before .before .args in
     let l = c .before .loop in
-    levels-all (s .args .plan) (s .args .d) (s .args .top) (l .j) (s .args .rows .now) (l .runs) (l .shape) (omega arith) (s .pre .0) (s .pre .1) (l .inv .2)
+    subst (λ (i : ℕ). LevelsTo (s .d) (s .top) i (s .rows .now) (l .runs) (l .shape)) (omega arith) (l .inv .2)
 
 pub set-levels-spec : {M : Type 1} → statement M
 set-levels-spec =

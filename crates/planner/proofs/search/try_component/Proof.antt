@@ -1,8 +1,9 @@
 -- `planner::search::try_component` meets its contract. No first vector begins so where the value is ruled out
--- (ruled-out-fails), or where the rule fails on the rows that end there (fine-fails).
-use mathlib.Core.Path.{refl}
+-- (ruled-out-fails), or where the rule fails on the rows that end there (fine-fails) or on a group there (groups_hold).
+use mathlib.Core.Path.{refl, _∙_}
 use native.Mathlib.Omega.{arith}
 use borrow.Author.Needs.{needs}
+use borrow.Author.Tests.{not-true, not-false}
 use lib.ListN.{length-set}
 use lib.Seq.{getD-set-same}
 use Rattle.planner.proofs.SearchSteps.{false-true, stage-more, stage-owners, fine-fails}
@@ -19,7 +20,7 @@ slice-write-z c = search needs
 ruled-out-requires : tie.Need-ruled-out-requires
 ruled-out-requires c κs =
     let start = c .before .before .before .before .before in (
-      start .pre .0 .levels .tall,
+      omega (arith, start .pre .0 .levels .tall),
       omega (arith, start .pre .0 .levels .few-axes, start .pre .1),
       omega (arith, length-set (start .args .z .now) (start .args .at) (start .args .v), start .pre .0 .size, start .pre .1),
       omega (arith, start .pre .0 .modulus, start .pre .1),
@@ -65,16 +66,49 @@ same-length-4 c = search needs
 
 returns-2 : tie.Need-returns-2
 returns-2 c =
-    let rule = c .before .before .rule-at in
-    let call = c .before .before .before .before .before .before .before .before .set-axis in
-    let start = c .before .before .before .before .before .before .before .before .before .before .before .before .before .before .before .before .before in
+    let rule = c .before .before .before .rule-at in
+    let call = c .before .before .before .before .before .before .before .before .before .set-axis in
+    let start = c .before .before .before .before .before .before .before .before .before .before .before .before .before .before .before .before .before .before in
+    record {
+      stored = refl;
+      kept = call .ensures .kept;
+      stage = false-true;
+      fine = false-true;
+      none = λ _. fine-fails (stage-more (start .pre .0) (start .pre .1 .0) (start .pre .1 .1) (call .ensures)) (rule .ensures .no (not-true _ (c .if2 .taken)));
+    }
+
+add-groups-hold : tie.Need-add-groups-hold
+add-groups-hold c = search needs
+
+groups-hold-requires : tie.Need-groups-hold-requires
+groups-hold-requires c κs =
+    let rule = c .before .before .before .before .before .before .rule-at in
+    let call = c .before .before .before .before .before .before .before .before .before .before .before .before .set-axis in
+    let start = c .before .before .before .before .before .before .before .before .before .before .before .before .before .before .before .before .before .before .before .before .before in
+    stage-owners _ _ _ _ _ _ _ (stage-more (start .pre .0) (start .pre .1 .0) (start .pre .1 .1) (call .ensures)) (rule .kept .1 .1 .1 .1 .1 .1 .1 .1 .1 .0)
+
+same-length-5 : tie.Need-same-length-5
+same-length-5 c = search needs
+
+same-length-6 : tie.Need-same-length-6
+same-length-6 c = search needs
+
+same-length-7 : tie.Need-same-length-7
+same-length-7 c = search needs
+
+returns-3 : tie.Need-returns-3
+returns-3 c =
+    let rule = c .before .before .before .before .before .before .before .before .before .rule-at in
+    let groups = c .before .before .groups-hold in
+    let call = c .before .before .before .before .before .before .before .before .before .before .before .before .before .before .before .set-axis in
+    let start = c .before .before .before .before .before .before .before .before .before .before .before .before .before .before .before .before .before .before .before .before .before .before .before .before in
     let stage = stage-more (start .pre .0) (start .pre .1 .0) (start .pre .1 .1) (call .ensures) in
     record {
       stored = refl;
       kept = call .ensures .kept;
-      stage = λ _. stage-owners _ _ _ _ _ _ _ stage (rule .kept .1 .1 .1 .1 .1 .1 .1 .1 .1 .0);
-      fine = rule .ensures .yes;
-      none = λ e. fine-fails stage (rule .ensures .no e);
+      stage = λ _. stage-owners _ _ _ _ _ _ _ stage (groups .kept .1 .1 .1 .1 .1 .1 .1 .1 .1 .0 ∙ rule .kept .1 .1 .1 .1 .1 .1 .1 .1 .1 .0);
+      fine = λ _. rule .ensures .yes (not-false _ (c .before .before .before .before .before .before .if2 .left));
+      none = groups .ensures;
     }
 
 pub try-component-spec : {M : Type 1} → statement M
@@ -92,4 +126,10 @@ try-component-spec =
     same-length-2
     same-length-3
     same-length-4
-    returns-2)
+    returns-2
+    add-groups-hold
+    groups-hold-requires
+    same-length-5
+    same-length-6
+    same-length-7
+    returns-3)

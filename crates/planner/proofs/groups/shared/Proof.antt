@@ -1,0 +1,54 @@
+-- `planner::groups::shared` reads no place outside its rows. Measure: the rows left.
+use Prim.Native.Nat.{_≤_, _-_}
+use native.Mathlib.Omega.{arith}
+use Rattle.planner.proofs.SwapSteps.{row-inside}
+use borrow.Author.Needs.{needs}
+use Rattle.planner.proofs.groups.shared.Statement.{statement}
+use Rattle.planner.proofs.groups.shared.Tie as tie
+
+abbrev Inv-loop : tie.InvT-loop
+Inv-loop d rows row j from to t₀ t = from ≤ t
+
+abbrev μ-loop : tie.MeasureT-loop
+μ-loop d rows row j from to t₀ t = to - t
+
+loop-holds : tie.Need-loop-holds Inv-loop μ-loop
+loop-holds c = search needs
+
+row-at-requires : tie.Need-row-at-requires Inv-loop μ-loop
+row-at-requires c κs =
+    let a = c .before .before .args in
+    row-inside (a .d) (c .before .loop .t) (a .rows .now) (omega arith) (omega arith)
+
+same-later-requires : tie.Need-same-later-requires Inv-loop μ-loop
+same-later-requires c κs = search needs
+
+returns : tie.Need-returns Inv-loop μ-loop
+returns c = search needs
+
+add-t : tie.Need-add-t Inv-loop μ-loop
+add-t c = search needs
+
+loop-less : tie.Need-loop-less Inv-loop μ-loop
+loop-less c = search needs
+
+loop-again : tie.Need-loop-again Inv-loop μ-loop
+loop-again c = search needs
+
+returns-2 : tie.Need-returns-2 Inv-loop μ-loop
+returns-2 c = search needs
+
+pub shared-spec : {M : Type 1} → statement M
+shared-spec =
+    tie.close
+    (tie.spec
+    Inv-loop
+    μ-loop
+    loop-holds
+    row-at-requires
+    same-later-requires
+    returns
+    add-t
+    loop-less
+    loop-again
+    returns-2)
