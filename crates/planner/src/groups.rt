@@ -1,6 +1,7 @@
 // The groups of a list: rows that have the same components from an axis j on, with zeros in their place. Under plans 1 to 4 the rule
 // holds of a group where it holds of the list, and it hangs on the components before axis j alone. Where a list is lower each
-// zeroed row is a row of the list itself: then no group is kept.
+// zeroed row is a row of the list itself: then no group is kept. Which groups are kept is a matter of speed alone, so the functions that
+// choose them promise nothing of their answer; what is proved is that every group that is kept is such a group.
 
 use crate::products::row_at;
 ghost use mathlib.Core.Path.{_≡_};
