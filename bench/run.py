@@ -160,7 +160,7 @@ def main():
     build()
     compared = table_of_requests()
     forced = table_of_brute_force()
-    by_rows, row_points = growth([(count, large.weighted(3, large.WEIGHTS[3], count)) for count in (20, 40, 60, 80)])
+    by_rows, row_points = growth([(count, large.weighted(3, large.WEIGHTS[3], count)) for count in (20, 40, 60, 80, 100)])
     by_axes, axis_points = growth([(d, large.total_degree(d, 2)) for d in range(2, 7)])
     by_rows[0] = by_rows[0] % "rows, three axes"
     by_axes[0] = by_axes[0] % "axes, total degree 2"
