@@ -171,8 +171,8 @@ def main():
     with open(os.path.join(HERE, "README.md"), "w") as file:
         file.write("\n".join(
             ["# Speed", "", "Made by `python3 bench/run.py --write` on: %s." % machine(), "",
-             "Times are of whole processes; `plan` is the proved program, the peer is bench/peer.cpp (plain C++, prunes 0 to 4, g++ -O3",
-             "-march=native). Prefixes are those that the peer tried.", "", "## Beside the peer", ""] + compared
+             "Times are of whole processes; `plan` is the proved program, the peer is bench/peer.cpp (plain C++, every prune of docs/PAPERS.md",
+             "but the groups, g++ -O3 -march=native). Prefixes are those that the peer tried.", "", "## Beside the peer", ""] + compared
             + ["", "## Beside the brute force", ""] + forced
             + ["", "## How the time grows", ""] + by_rows + ["", "![seconds over rows](rows.svg)", ""] + by_axes + ["", "![seconds over axes](axes.svg)", ""]))
 

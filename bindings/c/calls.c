@@ -1,5 +1,5 @@
 /*
- * Every call of the header once, on document 01's small examples. It prints the calls that answer otherwise; none where all is well.
+ * Every call of the header, on document 01's small examples. It prints the calls that answer otherwise; none where all is well.
  */
 #include <stdio.h>
 #include <string.h>

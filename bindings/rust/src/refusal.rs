@@ -2,36 +2,38 @@ use std::error::Error;
 use std::fmt;
 
 /// Why a call was refused: the conditions 1 to 11. Each call tries those that concern its arguments in this order, and answers with
-/// the first that applies.
+/// the first that applies. Later versions of the library may have further conditions, so a `match` needs an arm for the rest.
 #[derive(Clone, Copy, Debug, PartialEq, Eq, Hash, PartialOrd, Ord)]
-#[repr(u8)]
+#[non_exhaustive]
 pub enum Refusal {
-    /// There is no such plan, or the plan has no map (exact integration).
-    Plan = 1,
-    /// The number of axes is not 1 to 6.
-    Axes = 2,
-    /// The list is empty, its length is no multiple of the number of axes, or it has more than 512 rows.
-    Length = 3,
-    /// A component is not from -255 to 255, or is negative in a cosine plan.
-    Component = 4,
-    /// Two rows are equal.
-    EqualRows = 5,
-    /// The modulus, or the ceiling, is not 1 to 8192.
-    Modulus = 6,
-    /// The vector has not a component for each axis, or one is not below the modulus.
-    Vector = 7,
-    /// An output, or the terms or sums, have not the exact length.
-    Places = 8,
-    /// Nothing is admissible.
-    NothingAdmissible = 9,
-    /// The pair of modulus and vector is not admissible.
-    Inadmissible = 10,
-    /// A sum is no multiple of its row's copies, or the quotient does not fit 32 bits.
-    Ungatherable = 11,
+    /// 1: there is no such plan, or the plan has no map (exact integration).
+    Plan,
+    /// 2: the number of axes is not 1 to 6.
+    Axes,
+    /// 3: the list is empty, its length is no multiple of the number of axes, or it has more than 512 rows.
+    Length,
+    /// 4: a component is not from -255 to 255, or is negative in a cosine plan.
+    Component,
+    /// 5: two rows are equal.
+    EqualRows,
+    /// 6: the modulus, or the ceiling, is not 1 to 8192.
+    Modulus,
+    /// 7: the vector has not a component for each axis, or one is not below the modulus.
+    Vector,
+    /// 8: an output, or the terms or sums, have not the exact length.
+    Places,
+    /// 9: nothing is admissible.
+    NothingAdmissible,
+    /// 10: the pair of modulus and vector is not admissible.
+    Inadmissible,
+    /// 11: a sum is no multiple of its row's copies, or the quotient does not fit 32 bits.
+    Ungatherable,
+    /// A number that this version of the crate has no name for: the archive that is linked is of a later version.
+    Unknown(u8),
 }
 
 impl Refusal {
-    /// All of them, in order.
+    /// All that have a name, in the order of their numbers.
     pub const ALL: [Refusal; 11] = [
         Refusal::Plan,
         Refusal::Axes,
@@ -46,17 +48,41 @@ impl Refusal {
         Refusal::Ungatherable,
     ];
 
-    /// The refusal's number, 1 to 11.
+    /// The refusal's number, as the library returned it.
     pub const fn number(self) -> u8 {
-        self as u8
+        match self {
+            Refusal::Plan => 1,
+            Refusal::Axes => 2,
+            Refusal::Length => 3,
+            Refusal::Component => 4,
+            Refusal::EqualRows => 5,
+            Refusal::Modulus => 6,
+            Refusal::Vector => 7,
+            Refusal::Places => 8,
+            Refusal::NothingAdmissible => 9,
+            Refusal::Inadmissible => 10,
+            Refusal::Ungatherable => 11,
+            Refusal::Unknown(number) => number,
+        }
     }
 
-    /// What a call's number says: 0 is no refusal.
-    pub(crate) fn told(number: u8) -> Result<(), Refusal> {
-        match number {
-            0 => Ok(()),
-            _ => Err(Refusal::ALL[usize::from(number) - 1]),
-        }
+    /// What a call's number says: 0 is no refusal, and every other number is one.
+    pub(crate) const fn told(number: u8) -> Result<(), Refusal> {
+        Err(match number {
+            0 => return Ok(()),
+            1 => Refusal::Plan,
+            2 => Refusal::Axes,
+            3 => Refusal::Length,
+            4 => Refusal::Component,
+            5 => Refusal::EqualRows,
+            6 => Refusal::Modulus,
+            7 => Refusal::Vector,
+            8 => Refusal::Places,
+            9 => Refusal::NothingAdmissible,
+            10 => Refusal::Inadmissible,
+            11 => Refusal::Ungatherable,
+            _ => Refusal::Unknown(number),
+        })
     }
 }
 
@@ -74,8 +100,30 @@ impl fmt::Display for Refusal {
             Refusal::NothingAdmissible => "nothing is admissible",
             Refusal::Inadmissible => "the modulus and the vector are not admissible",
             Refusal::Ungatherable => "a sum is no multiple of its row's copies, or the quotient does not fit 32 bits",
+            Refusal::Unknown(number) => return write!(f, "refused with {number}, which this version does not know"),
         })
     }
 }
 
 impl Error for Refusal {}
+
+#[cfg(test)]
+mod tests {
+    use super::Refusal;
+
+    #[test]
+    fn every_number_is_told() {
+        assert_eq!(Refusal::told(0), Ok(()));
+        for number in 1..=u8::MAX {
+            let refusal = Refusal::told(number).unwrap_err();
+            assert_eq!(refusal.number(), number);
+            assert!(refusal.to_string().len() > 10);
+            match Refusal::ALL.get(usize::from(number) - 1) {
+                Some(known) => assert_eq!(refusal, *known),
+                None => assert_eq!(refusal, Refusal::Unknown(number)),
+            }
+        }
+        assert_eq!(Refusal::told(200), Err(Refusal::Unknown(200)));
+        assert!(Refusal::Unknown(200).to_string().contains("200"));
+    }
+}

@@ -71,8 +71,9 @@ impl<T: Copy + PartialEq + Debug> Lent<T> {
 struct Seen(BTreeMap<u8, usize>);
 
 impl Seen {
-    fn add(&mut self, number: u8) {
-        *self.0.entry(number).or_default() += 1;
+    /// Counts the number that a call with this answer returns.
+    fn add<T>(&mut self, answer: &Result<T, u8>) {
+        *self.0.entry(number(answer)).or_default() += 1;
     }
 
     fn all_of(&self, numbers: &[u8], least: usize) {
@@ -89,103 +90,84 @@ fn number<T>(answer: &Result<T, u8>) -> u8 {
     answer.as_ref().err().copied().unwrap_or(0)
 }
 
-/// The safe interface has the same answer, where the plan is one.
-fn safely<T: PartialEq + Debug>(
+/// The answer of a call of the safe interface; where the plan is none, of the conversion to a rule.
+fn safely<T>(plan: u8, call: impl FnOnce(Rule) -> Result<T, Refusal>) -> Result<T, u8> {
+    Rule::try_from(plan).and_then(call).map_err(Refusal::number)
+}
+
+/// A call that writes to lent places, made on the library's own function and again through the safe interface, each time on places
+/// with a pattern of its own: it returns the number expected, and the places hold what is expected.
+fn compare_places<T: Copy + PartialEq + Debug>(
     plan: u8,
-    expected: &Result<T, u8>,
-    call: impl FnOnce(Rule) -> Result<T, Refusal>,
+    places: usize,
+    patterns: [T; 2],
+    expected: &Result<Vec<T>, u8>,
     told: &dyn Debug,
+    raw: impl FnOnce(&mut [T]) -> u8,
+    safe: impl FnOnce(Rule, &mut [T]) -> Result<(), Refusal>,
 ) {
-    match Rule::try_from(plan) {
-        Ok(rule) => {
-            let answer = call(rule).map_err(Refusal::number);
-            assert_eq!(answer, *expected, "{told:?}");
+    let mut lent = Lent::new(places, patterns[0]);
+    assert_eq!(raw(lent.lend()), number(expected), "{told:?}");
+    lent.holds(expected.as_deref().ok(), told);
+
+    let mut lent = Lent::new(places, patterns[1]);
+    let answer = safely(plan, |rule| safe(rule, lent.lend()));
+    assert_eq!(answer.as_ref(), expected.as_ref().map(|_| &()), "{told:?}");
+    lent.holds(expected.as_deref().ok(), told);
+}
+
+/// A function of the library on the arguments of a case, and then its own.
+macro_rules! raw {
+    ($function:ident, $c:ident, $($own:expr),+) => {
+        unsafe {
+            let (rows, z) = (&$c.rows, &$c.z);
+            sys::$function($c.plan, $c.d, rows.as_ptr(), rows.len(), $c.n, z.as_ptr(), z.len(), $($own),+)
         }
-        Err(refusal) => assert_eq!(Err(&refusal.number()), expected.as_ref().map(|_| ()), "{told:?}"),
-    }
+    };
 }
 
 fn compare_check(c: &Case) -> Result<bool, u8> {
     let expected = independent::check(c.plan, c.d, &c.rows, c.n, &c.z);
     let mut yes = Lent::new(1, 0xa5);
-    let returned = unsafe {
-        sys::planner_check(
-            c.plan,
-            c.d,
-            c.rows.as_ptr(),
-            c.rows.len(),
-            c.n,
-            c.z.as_ptr(),
-            c.z.len(),
-            yes.lend().as_mut_ptr(),
-        )
-    };
-    assert_eq!(returned, number(&expected), "{c:?}");
+    assert_eq!(raw!(planner_check, c, yes.lend().as_mut_ptr()), number(&expected), "{c:?}");
     yes.holds(expected.ok().map(|yes| [u8::from(yes)]).as_ref().map(|yes| &yes[..]), c);
-    safely(c.plan, &expected, |rule| planner::check(rule, c.d, &c.rows, c.n, &c.z), c);
+    assert_eq!(safely(c.plan, |rule| planner::check(rule, c.d, &c.rows, c.n, &c.z)), expected, "{c:?}");
     expected
 }
 
 fn compare_map(c: &Case, places: usize) -> Result<Vec<u16>, u8> {
     let told = (c, places);
     let expected = independent::residue_map(c.plan, c.d, &c.rows, c.n, &c.z, places);
-    let mut out = Lent::new(places, 0xa5a5);
-    let returned = unsafe {
-        sys::planner_residue_map(
-            c.plan,
-            c.d,
-            c.rows.as_ptr(),
-            c.rows.len(),
-            c.n,
-            c.z.as_ptr(),
-            c.z.len(),
-            out.lend().as_mut_ptr(),
-            places,
-        )
-    };
-    assert_eq!(returned, number(&expected), "{told:?}");
-    out.holds(expected.as_deref().ok(), &told);
-
-    let mut out = Lent::new(places, 0x5a5a);
-    let answer = expected.as_ref().map(|_| ()).map_err(|&k| k);
-    safely(c.plan, &answer, |rule| planner::residue_map_into(rule, c.d, &c.rows, c.n, &c.z, out.lend()), &told);
-    out.holds(expected.as_deref().ok(), &told);
-
+    compare_places(
+        c.plan,
+        places,
+        [0xa5a5, 0x5a5a],
+        &expected,
+        &told,
+        |out| raw!(planner_residue_map, c, out.as_mut_ptr(), out.len()),
+        |rule, out| planner::residue_map_into(rule, c.d, &c.rows, c.n, &c.z, out),
+    );
     let entries = independent::residue_map(c.plan, c.d, &c.rows, c.n, &c.z, 2 * c.row_count())
         .map(|map| map.chunks(2).map(|e| Entry { residue: e[0], copies: e[1] }).collect());
-    safely(c.plan, &entries, |rule| planner::residue_map(rule, c.d, &c.rows, c.n, &c.z), c);
+    assert_eq!(safely(c.plan, |rule| planner::residue_map(rule, c.d, &c.rows, c.n, &c.z)), entries, "{c:?}");
     expected
 }
 
 fn compare_spread(c: &Case, terms: &[i32], places: usize) -> Result<Vec<i64>, u8> {
     let told = (c, terms.len(), places);
     let expected = independent::spread(c.plan, c.d, &c.rows, c.n, &c.z, terms, places);
-    let mut sums = Lent::new(places, 0x5aa5_a55a_1234_8765);
-    let returned = unsafe {
-        sys::planner_spread(
-            c.plan,
-            c.d,
-            c.rows.as_ptr(),
-            c.rows.len(),
-            c.n,
-            c.z.as_ptr(),
-            c.z.len(),
-            terms.as_ptr(),
-            terms.len(),
-            sums.lend().as_mut_ptr(),
-            places,
-        )
-    };
-    assert_eq!(returned, number(&expected), "{told:?}");
-    sums.holds(expected.as_deref().ok(), &told);
-
-    let mut sums = Lent::new(places, -1);
-    let answer = expected.as_ref().map(|_| ()).map_err(|&k| k);
-    safely(c.plan, &answer, |rule| planner::spread_into(rule, c.d, &c.rows, c.n, &c.z, terms, sums.lend()), &told);
-    sums.holds(expected.as_deref().ok(), &told);
-
+    compare_places(
+        c.plan,
+        places,
+        [0x5aa5_a55a_1234_8765, -1],
+        &expected,
+        &told,
+        |sums| raw!(planner_spread, c, terms.as_ptr(), terms.len(), sums.as_mut_ptr(), sums.len()),
+        |rule, sums| planner::spread_into(rule, c.d, &c.rows, c.n, &c.z, terms, sums),
+    );
     if places == usize::from(c.n) {
-        safely(c.plan, &expected, |rule| planner::spread(rule, c.d, &c.rows, c.n, &c.z, terms), &told);
+        let answer = safely(c.plan, |rule| planner::spread(rule, c.d, &c.rows, c.n, &c.z, terms));
+        assert_eq!(answer, expected, "{told:?}");
     }
     expected
 }
@@ -193,32 +175,18 @@ fn compare_spread(c: &Case, terms: &[i32], places: usize) -> Result<Vec<i64>, u8
 fn compare_gather(c: &Case, sums: &[i64], places: usize) -> Result<Vec<i32>, u8> {
     let told = (c, sums.len(), places);
     let expected = independent::gather(c.plan, c.d, &c.rows, c.n, &c.z, sums, places);
-    let mut terms = Lent::new(places, 0x5aa5_8765);
-    let returned = unsafe {
-        sys::planner_gather(
-            c.plan,
-            c.d,
-            c.rows.as_ptr(),
-            c.rows.len(),
-            c.n,
-            c.z.as_ptr(),
-            c.z.len(),
-            sums.as_ptr(),
-            sums.len(),
-            terms.lend().as_mut_ptr(),
-            places,
-        )
-    };
-    assert_eq!(returned, number(&expected), "{told:?}");
-    terms.holds(expected.as_deref().ok(), &told);
-
-    let mut terms = Lent::new(places, -1);
-    let answer = expected.as_ref().map(|_| ()).map_err(|&k| k);
-    safely(c.plan, &answer, |rule| planner::gather_into(rule, c.d, &c.rows, c.n, &c.z, sums, terms.lend()), &told);
-    terms.holds(expected.as_deref().ok(), &told);
-
+    compare_places(
+        c.plan,
+        places,
+        [0x5aa5_8765, -1],
+        &expected,
+        &told,
+        |terms| raw!(planner_gather, c, sums.as_ptr(), sums.len(), terms.as_mut_ptr(), terms.len()),
+        |rule, terms| planner::gather_into(rule, c.d, &c.rows, c.n, &c.z, sums, terms),
+    );
     if places == c.row_count() {
-        safely(c.plan, &expected, |rule| planner::gather(rule, c.d, &c.rows, c.n, &c.z, sums), &told);
+        let answer = safely(c.plan, |rule| planner::gather(rule, c.d, &c.rows, c.n, &c.z, sums));
+        assert_eq!(answer, expected, "{told:?}");
     }
     expected
 }
@@ -226,19 +194,20 @@ fn compare_gather(c: &Case, sums: &[i64], places: usize) -> Result<Vec<i32>, u8>
 fn compare_points(c: &Case, places: usize) -> Result<Vec<u16>, u8> {
     let told = (c.plan, c.d, c.n, &c.z, places);
     let expected = independent::point_list(c.plan, c.d, c.n, &c.z, places);
-    let mut out = Lent::new(places, 0xa5a5);
-    let returned =
-        unsafe { sys::planner_point_list(c.plan, c.d, c.n, c.z.as_ptr(), c.z.len(), out.lend().as_mut_ptr(), places) };
-    assert_eq!(returned, number(&expected), "{told:?}");
-    out.holds(expected.as_deref().ok(), &told);
-
-    let mut out = Lent::new(places, 0x5a5a);
-    let answer = expected.as_ref().map(|_| ()).map_err(|&k| k);
-    safely(c.plan, &answer, |rule| planner::point_list_into(rule, c.d, c.n, &c.z, out.lend()), &told);
-    out.holds(expected.as_deref().ok(), &told);
-
+    compare_places(
+        c.plan,
+        places,
+        [0xa5a5, 0x5a5a],
+        &expected,
+        &told,
+        |out| unsafe {
+            sys::planner_point_list(c.plan, c.d, c.n, c.z.as_ptr(), c.z.len(), out.as_mut_ptr(), out.len())
+        },
+        |rule, out| planner::point_list_into(rule, c.d, c.n, &c.z, out),
+    );
     if places == usize::from(c.n) * c.axes() {
-        safely(c.plan, &expected, |rule| planner::point_list(rule, c.d, c.n, &c.z), &told);
+        let answer = safely(c.plan, |rule| planner::point_list(rule, c.d, c.n, &c.z));
+        assert_eq!(answer, expected, "{told:?}");
     }
     expected
 }
@@ -252,56 +221,42 @@ enum Search {
 
 fn compare_search(search: Search, c: &Case, places: usize) -> Result<(u16, Vec<u16>), u8> {
     let told = (search, c, places);
-    let expected = match search {
-        Search::Vector => independent::search_vector(c.plan, c.d, &c.rows, c.n, places),
-        Search::Smallest => independent::search_smallest(c.plan, c.d, &c.rows, c.n, places),
+    let independent = match search {
+        Search::Vector => independent::search_vector,
+        Search::Smallest => independent::search_smallest,
     };
-    let function = match search {
+    let raw = match search {
         Search::Vector => sys::planner_search_vector,
         Search::Smallest => sys::planner_search_smallest,
     };
-    let mut z = Lent::new(places, 0xa5a5);
-    let mut found = Lent::new(1, 0x5a5a);
-    let returned = unsafe {
-        function(
-            c.plan,
-            c.d,
-            c.rows.as_ptr(),
-            c.rows.len(),
-            c.n,
-            z.lend().as_mut_ptr(),
-            places,
-            found.lend().as_mut_ptr(),
-        )
+    let into = match search {
+        Search::Vector => planner::search_vector_into,
+        Search::Smallest => planner::search_smallest_into,
     };
-    assert_eq!(returned, number(&expected), "{told:?}");
-    z.holds(expected.as_ref().ok().map(|(_, z)| &z[..]), &told);
-    found.holds(expected.as_ref().ok().map(|(n, _)| [*n]).as_ref().map(|n| &n[..]), &told);
-
-    let mut z = Lent::new(places, 0x5a5a);
-    let answer = expected.as_ref().map(|(n, _)| *n).map_err(|&k| k);
-    safely(
+    let whole = match search {
+        Search::Vector => planner::search_vector,
+        Search::Smallest => planner::search_smallest,
+    };
+    let expected = independent(c.plan, c.d, &c.rows, c.n, places);
+    let vector = expected.clone().map(|(_, z)| z);
+    let modulus = expected.as_ref().ok().map(|(n, _)| [*n]);
+    let mut found = Lent::new(1, 0x5a5a);
+    compare_places(
         c.plan,
-        &answer,
-        |rule| match search {
-            Search::Vector => planner::search_vector_into(rule, c.d, &c.rows, c.n, z.lend()),
-            Search::Smallest => planner::search_smallest_into(rule, c.d, &c.rows, c.n, z.lend()),
-        },
+        places,
+        [0xa5a5, 0x5a5a],
+        &vector,
         &told,
+        |z| unsafe {
+            let (rows, found) = (&c.rows, found.lend().as_mut_ptr());
+            raw(c.plan, c.d, rows.as_ptr(), rows.len(), c.n, z.as_mut_ptr(), z.len(), found)
+        },
+        |rule, z| into(rule, c.d, &c.rows, c.n, z).map(|n| assert_eq!(Some([n]), modulus, "{told:?}")),
     );
-    z.holds(expected.as_ref().ok().map(|(_, z)| &z[..]), &told);
-
+    found.holds(modulus.as_ref().map(|n| &n[..]), &told);
     if places == c.axes() {
         let plan = expected.clone().map(|(n, z)| Plan { n, z });
-        safely(
-            c.plan,
-            &plan,
-            |rule| match search {
-                Search::Vector => planner::search_vector(rule, c.d, &c.rows, c.n),
-                Search::Smallest => planner::search_smallest(rule, c.d, &c.rows, c.n),
-            },
-            &told,
-        );
+        assert_eq!(safely(c.plan, |rule| whole(rule, c.d, &c.rows, c.n)), plan, "{told:?}");
     }
     expected
 }
@@ -309,28 +264,26 @@ fn compare_search(search: Search, c: &Case, places: usize) -> Result<(u16, Vec<u
 /// Check, map, spread, gather and point list on one case with places of the right length; gathering after spreading gives the terms
 /// back. The numbers returned are counted for each call.
 fn compare_all(c: &Case, random: &mut Random, seen: &mut [Seen; 5]) {
-    seen[0].add(number(&compare_check(c)));
-    seen[1].add(number(&compare_map(c, 2 * c.row_count())));
+    seen[0].add(&compare_check(c));
+    seen[1].add(&compare_map(c, 2 * c.row_count()));
     let terms = random.terms(c.row_count());
-    let sums = compare_spread(c, &terms, usize::from(c.n));
-    seen[2].add(number(&sums));
-    match sums {
-        Ok(mut sums) => {
-            assert_eq!(compare_gather(c, &sums, terms.len()), Ok(terms.clone()), "{c:?}");
-            seen[3].add(0);
-            // sums that no spreading gave
-            let at = random.below(sums.len());
-            sums[at] = random.sum();
-            seen[3].add(number(&compare_gather(c, &sums, terms.len())));
-        }
-        Err(refused) => {
-            let sums = vec![0; usize::from(c.n)];
-            let gathered = compare_gather(c, &sums, terms.len());
-            assert_eq!(gathered, Err(refused), "{c:?}");
-            seen[3].add(refused);
-        }
+    let spread = compare_spread(c, &terms, usize::from(c.n));
+    seen[2].add(&spread);
+    // gathering is refused as spreading was
+    let (mut sums, back) = match spread {
+        Ok(sums) => (sums, Ok(terms.clone())),
+        Err(refused) => (vec![0; usize::from(c.n)], Err(refused)),
+    };
+    let gathered = compare_gather(c, &sums, terms.len());
+    assert_eq!(gathered, back, "{c:?}");
+    seen[3].add(&gathered);
+    if gathered.is_ok() {
+        // sums that no spreading gave
+        let at = random.below(sums.len());
+        sums[at] = random.sum();
+        seen[3].add(&compare_gather(c, &sums, terms.len()));
     }
-    seen[4].add(number(&compare_points(c, usize::from(c.n) * c.axes())));
+    seen[4].add(&compare_points(c, usize::from(c.n) * c.axes()));
 }
 
 /// A component from -bound to bound, from 0 for plans 2 to 4.
@@ -341,6 +294,18 @@ fn component(plan: u8, bound: usize, random: &mut Random) -> i16 {
     } else {
         x
     }
+}
+
+/// The different ones of `count` rows drawn from a box.
+fn different_rows(plan: u8, count: usize, bounds: &[i64], random: &mut Random) -> Vec<Vec<i16>> {
+    let mut rows = Vec::new();
+    for _ in 0..count {
+        let row: Vec<i16> = bounds.iter().map(|&b| component(plan, b as usize, random)).collect();
+        if !rows.contains(&row) {
+            rows.push(row);
+        }
+    }
+    rows
 }
 
 /// Different rows of a box, in random order, and a pair that keeps all of them and their mirrors apart: the components of z are the
@@ -372,13 +337,8 @@ fn admissible_case(plan: u8, most_rows: usize, random: &mut Random) -> Case {
     let z: Vec<u16> = z.iter().map(|x| (x * factor % n) as u16).collect();
 
     let count = 1 + random.below(most_rows);
-    let mut rows: Vec<Vec<i16>> = Vec::new();
-    for _ in 0..2 * count {
-        let row: Vec<i16> = bounds.iter().map(|&b| component(plan, b as usize, random)).collect();
-        if rows.len() < count && !rows.contains(&row) {
-            rows.push(row);
-        }
-    }
+    let mut rows = different_rows(plan, 2 * count, &bounds, random);
+    rows.truncate(count);
     Case { plan, d, rows: rows.concat(), n: n as u16, z }
 }
 
@@ -400,6 +360,13 @@ fn any_case(plan: u8, random: &mut Random) -> Case {
     let n = 1 + random.below(most) as u16;
     let z = (0..d).map(|_| random.below(usize::from(n)) as u16).collect();
     Case { plan, d, rows, n, z }
+}
+
+/// One to `most` things of the case are made wrong, or at least other.
+fn damage_some(c: &mut Case, most: usize, random: &mut Random) {
+    for _ in 0..=random.below(most) {
+        damage(c, random);
+    }
 }
 
 /// One thing of the case is made wrong, or at least other.
@@ -470,9 +437,7 @@ fn short_lists() {
             Err(_) => {}
         }
         if turn % 2 == 0 {
-            for _ in 0..=random.below(3) {
-                damage(&mut c, &mut random);
-            }
+            damage_some(&mut c, 3, &mut random);
         }
         compare_all(&c, &mut random, &mut seen);
     }
@@ -491,9 +456,7 @@ fn long_lists() {
         longest = longest.max(c.row_count());
         assert_eq!(compare_check(&c), Ok(true), "{c:?}");
         if turn >= 50 {
-            for _ in 0..=random.below(2) {
-                damage(&mut c, &mut random);
-            }
+            damage_some(&mut c, 2, &mut random);
         }
         compare_all(&c, &mut random, &mut seen);
     }
@@ -557,10 +520,10 @@ fn wrong_lengths() {
         };
         let (map, terms, sums, points) = (other(2 * m), other(m), other(n), other(n * c.axes()));
         let given = random.terms(terms);
-        seen.add(number(&compare_map(&c, map)));
-        seen.add(number(&compare_spread(&c, &given, sums)));
-        seen.add(number(&compare_gather(&c, &vec![0; sums], terms)));
-        seen.add(number(&compare_points(&c, points)));
+        seen.add(&compare_map(&c, map));
+        seen.add(&compare_spread(&c, &given, sums));
+        seen.add(&compare_gather(&c, &vec![0; sums], terms));
+        seen.add(&compare_points(&c, points));
     }
     assert!(seen.0[&8] > 1000, "{:?}", seen.0);
 }
@@ -612,7 +575,7 @@ fn gathering() {
                         _ => sums[at].wrapping_mul(2),
                     };
                 }
-                seen.add(number(&compare_gather(&c, &sums, c.row_count())));
+                seen.add(&compare_gather(&c, &sums, c.row_count()));
             }
         }
     }
@@ -633,7 +596,7 @@ fn cutting_lists() {
             .map(|x| if turn % 8 > 0 { x.min(n.max(1) - 1) } else { x })
             .collect();
         let c = Case { plan, d, rows: vec![], n, z };
-        seen.add(number(&compare_points(&c, usize::from(n) * d)));
+        seen.add(&compare_points(&c, usize::from(n) * d));
     }
     seen.all_of(&[0, 1, 2, 6, 7], 5);
 }
@@ -648,13 +611,7 @@ fn searches() {
         let d = 1 + random.below(3);
         let span = random.pick(&[1, 2, 3, 6, 40]);
         let count = 1 + random.below([6, 4, 3][d - 1]);
-        let mut rows: Vec<Vec<i16>> = Vec::new();
-        for _ in 0..count {
-            let row: Vec<i16> = (0..d).map(|_| component(plan, span, &mut random)).collect();
-            if !rows.contains(&row) {
-                rows.push(row);
-            }
-        }
+        let rows = different_rows(plan, count, &vec![span; d], &mut random);
         let ceiling = 1 + random.below([40, 14, 9][d - 1]) as u16;
         let mut c = Case { plan, d, rows: rows.concat(), n: ceiling, z: vec![] };
         let mut places = d;
@@ -674,8 +631,8 @@ fn searches() {
                 c.rows.push(3);
             }
         }
-        seen[0].add(number(&compare_search(Search::Vector, &c, places)));
-        seen[1].add(number(&compare_search(Search::Smallest, &c, places)));
+        seen[0].add(&compare_search(Search::Vector, &c, places));
+        seen[1].add(&compare_search(Search::Smallest, &c, places));
     }
     for seen in &seen {
         seen.all_of(&[0, 1, 2, 3, 4, 5, 6, 8, 9], 20);

@@ -1,2 +1,3 @@
--- Laws of the exports' answers.
+-- Laws of the exports' answers, and theorems of the exports for readers.
 pub mod AnswerLaws
+pub mod ExportTheorems

@@ -2,16 +2,8 @@
 // the refusal, 0 for none. What a call finds beside that, yes or no or the modulus, goes to a lent place, which keeps its content
 // where the call is refused.
 
-ghost use mathlib.Core.Path.{_≡_};
-ghost use mathlib.Core.List.{map};
-ghost use lib.IntN.{pos};
-ghost use lib.ListN.{length};
-ghost use Rattle.rank1.specs.Index.{indexList};
-ghost use Rattle.rank1.specs.Sums.{residueMap, spreadSums, gatheredTerms};
-ghost use Rattle.rank1.specs.Points.{pointList};
-ghost use Rattle.rank1.specs.Refusal.{mapRefusal, spreadRefusal, gatherRefusal, pointRefusal, searchRefusal};
-ghost use Rattle.planner.specs.Answer.{checkAnswer, Answered, FirstOrNone, SmallestOrNone, RefusedOr};
-ghost use Rattle.exports.specs.Numbers.{Told, Planned, refusalIn};
+ghost use Rattle.planner.specs.Answer.{checkAnswer, ResidueMapCall, SpreadCall, GatherCall, PointListCall, VectorSearch, SmallestSearch};
+ghost use Rattle.exports.specs.Numbers.{CheckTold, PlanTold};
 
 // Whether the pair n, z meets the rule of the plan for the rows: `yes` then holds 1 or 0.
 #[no_mangle]
@@ -23,7 +15,7 @@ pub extern "C" fn planner_check(
     z: &[u16],
     yes: &mut u8,
 ) -> u8
-    ensures { λ r. ⌜ Told (checkAnswer plan d (now (rows .entry)) n (now (z .entry))) (now (yes .entry)) (now (yes .exit)) r ⌝ }
+    ensures { λ r. ⌜ CheckTold (checkAnswer plan d (now (rows .entry)) n (now (z .entry))) (now (yes .entry)) (now (yes .exit)) r ⌝ }
 {
     match planner::check(plan, d, rows, n, z) {
         planner::Verdict::Admissible => {
@@ -48,7 +40,7 @@ pub extern "C" fn planner_residue_map(
     z: &[u16],
     out: &mut [u16],
 ) -> u8
-    ensures { λ r. ⌜ Answered (mapRefusal plan d (now (rows .entry)) n (now (z .entry)) (length (now (out .entry)))) (residueMap plan n (map pos (now (z .entry))) (indexList d (now (rows .entry)))) (now (out .entry)) (now (out .exit)) r ⌝ }
+    ensures { λ r. ⌜ ResidueMapCall plan d (now (rows .entry)) n (now (z .entry)) (now (out .entry)) (now (out .exit)) r ⌝ }
 {
     planner::residue_map(plan, d, rows, n, z, out)
 }
@@ -64,7 +56,7 @@ pub extern "C" fn planner_spread(
     terms: &[i32],
     sums: &mut [i64],
 ) -> u8
-    ensures { λ r. ⌜ Answered (spreadRefusal plan d (now (rows .entry)) n (now (z .entry)) (length (now (terms .entry))) (length (now (sums .entry)))) (spreadSums plan n (map pos (now (z .entry))) (indexList d (now (rows .entry))) (now (terms .entry))) (now (sums .entry)) (now (sums .exit)) r ⌝ }
+    ensures { λ r. ⌜ SpreadCall plan d (now (rows .entry)) n (now (z .entry)) (now (terms .entry)) (now (sums .entry)) (now (sums .exit)) r ⌝ }
 {
     planner::spread(plan, d, rows, n, z, terms, sums)
 }
@@ -80,7 +72,7 @@ pub extern "C" fn planner_gather(
     sums: &[i64],
     terms: &mut [i32],
 ) -> u8
-    ensures { λ r. ⌜ Answered (gatherRefusal plan d (now (rows .entry)) n (now (z .entry)) (now (sums .entry)) (length (now (terms .entry)))) (gatheredTerms plan n (map pos (now (z .entry))) (indexList d (now (rows .entry))) (now (sums .entry))) (now (terms .entry)) (now (terms .exit)) r ⌝ }
+    ensures { λ r. ⌜ GatherCall plan d (now (rows .entry)) n (now (z .entry)) (now (sums .entry)) (now (terms .entry)) (now (terms .exit)) r ⌝ }
 {
     planner::gather(plan, d, rows, n, z, sums, terms)
 }
@@ -88,19 +80,9 @@ pub extern "C" fn planner_gather(
 // The point list: n lines of d numbers.
 #[no_mangle]
 pub extern "C" fn planner_point_list(plan: u8, d: usize, n: u16, z: &[u16], out: &mut [u16]) -> u8
-    ensures { λ r. ⌜ Answered (pointRefusal plan d n (now (z .entry)) (length (now (out .entry)))) (pointList plan n (now (z .entry))) (now (out .entry)) (now (out .exit)) r ⌝ }
+    ensures { λ r. ⌜ PointListCall plan d n (now (z .entry)) (now (out .entry)) (now (out .exit)) r ⌝ }
 {
     planner::point_list(plan, d, n, z, out)
-}
-
-// The number of a search's refusal, 0 where it found a plan.
-fn refusal_in(answer: planner::Plan) -> u8
-    ensures { λ r. ⌜ r ≡ refusalIn answer ⌝ }
-{
-    match answer {
-        planner::Plan::Found(_) => 0,
-        planner::Plan::Refused(refused) => refused,
-    }
 }
 
 // The first admissible vector at n in dictionary order: it then stands in z, and n in `found`.
@@ -113,11 +95,11 @@ pub extern "C" fn planner_search_vector(
     z: &mut [u16],
     found: &mut u16,
 ) -> u8
-    ensures { λ r. ⌜ Planned (λ answer. RefusedOr (searchRefusal plan d (now (rows .entry)) n (length (now (z .entry)))) (now (z .entry)) (now (z .exit)) answer (FirstOrNone plan d (indexList d (now (rows .entry))) n (now (z .entry)) (now (z .exit)) answer)) (now (found .entry)) (now (found .exit)) r ⌝ }
+    ensures { λ r. ⌜ PlanTold (VectorSearch plan d (now (rows .entry)) n (now (z .entry)) (now (z .exit))) (now (found .entry)) (now (found .exit)) r ⌝ }
 {
     let first = planner::search_vector(plan, d, rows, n, z);
     let planner::Plan::Found(modulus) = first else {
-        return refusal_in(first);
+        return planner::refusal_of(first);
     };
     *found = modulus;
     0
@@ -133,11 +115,11 @@ pub extern "C" fn planner_search_smallest(
     z: &mut [u16],
     found: &mut u16,
 ) -> u8
-    ensures { λ r. ⌜ Planned (λ answer. RefusedOr (searchRefusal plan d (now (rows .entry)) ceiling (length (now (z .entry)))) (now (z .entry)) (now (z .exit)) answer (SmallestOrNone plan d (indexList d (now (rows .entry))) ceiling (now (z .entry)) (now (z .exit)) answer)) (now (found .entry)) (now (found .exit)) r ⌝ }
+    ensures { λ r. ⌜ PlanTold (SmallestSearch plan d (now (rows .entry)) ceiling (now (z .entry)) (now (z .exit))) (now (found .entry)) (now (found .exit)) r ⌝ }
 {
     let smallest = planner::search_smallest(plan, d, rows, ceiling, z);
     let planner::Plan::Found(least) = smallest else {
-        return refusal_in(smallest);
+        return planner::refusal_of(smallest);
     };
     *found = least;
     0

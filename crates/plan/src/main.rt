@@ -3,14 +3,13 @@
 
 use libc::STDIN_FILENO;
 use libc::STDOUT_FILENO;
-use request::Reply;
+use request::ANSWER_BYTES;
+use request::TEXT_BYTES;
 
 fn main() {
-    let mut text = [0u8; 32769];
-    let mut out = [0u8; 8192];
+    let mut text = [0u8; TEXT_BYTES + 1];
+    let mut out = [0u8; ANSWER_BYTES];
     let got = io::read_full(STDIN_FILENO, &mut text);
-    let Reply::Written(size) = request::answer(&text[..got], &mut out) else {
-        return;
-    };
+    let size = request::answer_whole(&text[..got], &mut out);
     io::write_all(STDOUT_FILENO, &out[..size]);
 }

@@ -1,17 +1,7 @@
--- Laws that the planner's proofs share.
-pub mod ProductLaws
-pub mod Writing
-pub mod PointSteps
-pub mod TakenLaws
-pub mod LevelLaws
-pub mod MirrorResidues
-pub mod OwnerLaws
-pub mod RuleIndex
-pub mod CallLaws
-pub mod SearchSteps
-pub mod SignedSteps
-pub mod SumSteps
-pub mod PlanLaws
+-- Theorems of the calls, for readers.
 pub mod CallTheorems
-pub mod SwapSteps
-pub mod GroupSteps
+pub mod SearchTheorems
+-- Laws that the proofs of the calls, and of more than one module, share; those of one module stand in its folder.
+pub mod CallLaws
+pub mod SearchCalls
+pub mod Writing

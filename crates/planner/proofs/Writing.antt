@@ -1,12 +1,13 @@
--- Writing a list into lent places, one element a turn.
-use mathlib.Core.Path.{_≡_, refl, sym, _∙_, ap}
+-- Writing a list into lent places, one element a turn; and emptying places.
+use mathlib.Core.Path.{_≡_, sym, _∙_, ap}
 use mathlib.Core.List.{List, [], _∷_, _++_, append-assoc, append-nil}
-use Prim.Native.Nat.{ℕ, suc, _+_, _≤_, _<_}
+use Prim.Native.Nat.{ℕ, _+_, _≤_, _<_}
 use native.Mathlib.Nat.{add-suc, add-zero}
 use native.Mathlib.Numerals.{add-one}
 use native.Mathlib.Omega.{arith}
+use borrow.Author.Count.{below-more}
 use lib.ListN.{length, getD, take, set}
-use lib.Seq.{take-suc, take-suc-set, take-all}
+use lib.Seq.{take-suc, take-suc-set, take-all, getD-set-same, getD-set-other}
 
 module _ {A : Type 0} where
   -- nothing is written yet
@@ -29,3 +30,10 @@ module _ {A : Type 0} where
     where
       same : n ≡ j
       same = omega arith
+
+  -- ---- emptying places, one a turn: one more holds z
+  pub clear-more : (z : A) (table : List A) (i : ℕ) → i < length table → ((r : ℕ) → r < i → getD table r z ≡ z) → (r : ℕ) → r < i + 1 → getD (set table i z) r z ≡ z
+  clear-more z table i l old =
+      below-more (λ (r : ℕ). getD (set table i z) r z ≡ z) i
+      (λ r m. getD-set-other table i r z z (λ e. omega arith) ∙ old r m)
+      (getD-set-same table i z z l)

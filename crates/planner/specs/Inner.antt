@@ -13,6 +13,7 @@ use Rattle.rank1.specs.Index.{rowCount, indexList}
 use Rattle.rank1.specs.Rule.{Reconstructs}
 use Rattle.rank1.specs.Sums.{in32, copies}
 use Rattle.rank1.specs.Valid.{Distinct, ValidModulus}
+use Rattle.rank1.specs.Axes.{ZeroFrom}
 
 -- b is true exactly where P holds
 pub record Decides (b : Bool) (P : Type 0) : Type 0 where
@@ -48,10 +49,6 @@ pub record Prepared (n : ℕ) (z : List ℕ) (xs : List ℤ) (table : List ℕ) 
   pub products : Products n z top table
 
 -- ---- rows
--- every component from axis j on is 0
-abbrev pub ZeroFrom : ℕ → List ℤ → Type 0
-ZeroFrom j k = (i : ℕ) → j ≤ i → getD k i (pos 0) ≡ pos 0
-
 -- what the residues of a row's mirrors ask: at most 6 axes, the row 0 from z's length on, and the products
 pub record RowReady (n : ℕ) (z : List ℕ) (k : List ℤ) (table : List ℕ) : Type 0 where
   pub modulus : ValidModulus n
@@ -103,7 +100,7 @@ abbrev pub occurrences : ℕ → List ℕ → ℕ
 occurrences x rs = count (λ r. eqb r x) rs
 
 -- what adding a at each of the residues asks: they are places, and no sum leaves 64 bits
-pub record Shared (a : ℤ) (rs : List ℕ) (sums : List ℤ) : Type 0 where
+pub record Addable (a : ℤ) (rs : List ℕ) (sums : List ℤ) : Type 0 where
   pub inside : (t : ℕ) → t < length rs → getD rs t 0 < length sums
   pub fits : (r : ℕ) → natAbs (getD sums r (pos 0)) + length rs * natAbs a < 2 ^ 63
 

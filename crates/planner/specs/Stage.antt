@@ -6,13 +6,16 @@ use Prim.Native.Nat.{ℕ, _+_, _-_, _*_, _%_, _<_, _≤_}
 use lib.Dec.{eqb}
 use lib.IntN.{ℤ, pos}
 use lib.ListN.{length, getD, take, drop, set}
+use Rattle.planner.specs.declared.Plan.{Plan}
+use Rattle.planner.specs.declared.Plan.the-variants as answer
 use Rattle.rank1.specs.Tests.{every, sameNumber, sameRow}
 use Rattle.rank1.specs.Index.{rowCount, indexList}
-use Rattle.rank1.specs.Rule.{Admissible}
+use Rattle.rank1.specs.Rule.{Rule, Admissible}
 use Rattle.rank1.specs.Search.{Before, InRange, First, Hopeless}
 use Rattle.rank1.specs.Valid.{Distinct, Nonnegative, ValidModulus}
-use Rattle.rank1.proofs.SwapLaws.{Interchangeable}
-use Rattle.rank1.proofs.GroupLaws.{zeroAfter}
+use Rattle.rank1.specs.Axes.{Agree, Interchangeable, zeroAfter}
+use Rattle.rank1.specs.Refusal.{searchRefusal}
+use Rattle.planner.specs.Answer.{RefusedOr}
 use Rattle.planner.specs.Inner.{Products, Covered}
 
 -- ---- levels: for each axis j the rows that are 0 from j on, in 3072 places of their own, 21504 in all; the groups stand behind
@@ -36,14 +39,14 @@ abbrev pub searched : ℕ → List ℤ → List ℕ → List (List ℤ)
 searched d runs shape = indexList d (levelRun runs shape d)
 
 -- a run of rows that hold the list given
-pub record Level (d : ℕ) (ks : List (List ℤ)) (xs : List ℤ) : Type 0 where
+pub record RunOf (d : ℕ) (ks : List (List ℤ)) (xs : List ℤ) : Type 0 where
   pub rows : indexList d xs ≡ ks
   pub whole : length xs ≡ rowCount d xs * d
 
 -- r numbers at the front of `new` are the rows of xs that are 0 from axis j on; no number is in `new` that was not there before
 -- or in xs
 pub record Kept (d j : ℕ) (xs old new : List ℤ) (r : ℕ) : Type 0 where
-  pub level : Level d (ending j (indexList d xs)) (take r new)
+  pub level : RunOf d (ending j (indexList d xs)) (take r new)
   pub fits : r ≤ length xs
   pub covers : (top : ℕ) → Covered top xs → Covered top old → Covered top new
 
@@ -63,7 +66,7 @@ pub record LevelsTo (d top j : ℕ) (xs runs : List ℤ) (shape : List ℕ) : Ty
   pub long : length runs ≡ 21504
   pub covers : Covered top runs
   pub few : (i : ℕ) → i < j → getD shape i 0 ≤ 3072
-  pub level : (i : ℕ) → i < j → Level d (ending i (indexList d xs)) (levelRun runs shape i)
+  pub level : (i : ℕ) → i < j → RunOf d (ending i (indexList d xs)) (levelRun runs shape i)
 
 -- ---- groups: rows with one later part, with zeros in its place
 -- the rows whose components from axis j on are u
@@ -77,8 +80,8 @@ zeroedGroup j u ks = map (zeroAfter j) (sharing j u ks)
 
 -- r numbers at the front of `new` are the rows of xs that share u, zeroed; no number is in `new` that was not there before, in xs
 -- or 0
-pub record Gathered (d j : ℕ) (u xs old new : List ℤ) (r : ℕ) : Type 0 where
-  pub level : Level d (zeroedGroup j u (indexList d xs)) (take r new)
+pub record GroupWritten (d j : ℕ) (u xs old new : List ℤ) (r : ℕ) : Type 0 where
+  pub level : RunOf d (zeroedGroup j u (indexList d xs)) (take r new)
   pub fits : r ≤ length xs
   pub covers : (top : ℕ) → Covered top xs → Covered top old → Covered top new
 
@@ -94,7 +97,7 @@ pub record GroupAt (plan d j : ℕ) (ks : List (List ℤ)) (area : List ℤ) (ma
   pub upward : getD marks (8 + g) 0 ≤ getD marks (9 + g) 0
   pub inside : getD marks (9 + g) 0 ≤ length area
   pub later : List ℤ
-  pub level : Level d (zeroedGroup j later ks) (groupRun area marks g)
+  pub level : RunOf d (zeroedGroup j later ks) (groupRun area marks g)
 
 pub record Groups (plan d : ℕ) (ks : List (List ℤ)) (area : List ℤ) (marks : List ℕ) : Type 0 where
   pub group : (j g : ℕ) → j ≤ d → getD marks j 0 ≤ g → g < getD marks (j + 1) 0 → GroupAt plan d j ks area marks g
@@ -124,18 +127,14 @@ pub record Levels (plan d top : ℕ) (runs : List ℤ) (shape : List ℕ) : Type
   pub tall : 51 ≤ length shape
   pub swaps : Swaps d (searched d runs shape) shape
   pub room : (j : ℕ) → j ≤ d → j * 3072 + getD shape j 0 ≤ length runs
-  pub level : (j : ℕ) → j ≤ d → Level d (ending j (searched d runs shape)) (levelRun runs shape j)
+  pub level : (j : ℕ) → j ≤ d → RunOf d (ending j (searched d runs shape)) (levelRun runs shape j)
   pub wide : 21504 ≤ length runs
   pub groups : Groups plan d (searched d runs shape) (drop 21504 runs) (drop 43 shape)
 
 -- ---- prefixes
--- y and z have the same components below k
-abbrev pub Agree : ℕ → List ℕ → List ℕ → Type 0
-Agree k y z = (i : ℕ) → i < k → getD y i 0 ≡ getD z i 0
-
 -- no first vector begins as z does below k
-unfoldable pub NoFirstFrom : ℕ → ℕ → List (List ℤ) → ℕ → ℕ → List ℕ → Type 0
-NoFirstFrom plan d ks n k z = (y : List ℕ) → First plan d ks n y → Agree k y z → ⊥
+unfoldable pub NoFirstFrom : Rule → ℕ → ℕ → ℕ → List ℕ → Type 0
+NoFirstFrom rule d n k z = (y : List ℕ) → First rule d n y → Agree k y z → ⊥
 
 -- the first at components of z are fixed and their products set
 pub record Stage (plan d top : ℕ) (runs : List ℤ) (shape : List ℕ) (n at : ℕ) (z products owners : List ℕ) : Type 0 where
@@ -150,7 +149,7 @@ pub record Stage (plan d top : ℕ) (runs : List ℤ) (shape : List ℕ) (n at :
 
 -- the rule holds of the rows that are 0 from axis at on
 abbrev pub Fine : ℕ → ℕ → List ℤ → List ℕ → ℕ → ℕ → List ℕ → Type 0
-Fine plan d runs shape n at z = Admissible (ending at (searched d runs shape)) n (map pos (take at z)) plan
+Fine plan d runs shape n at z = Admissible plan (ending at (searched d runs shape)) n (map pos (take at z))
 
 -- the entries of the axes before at are as they were
 abbrev pub KeptBelow : ℕ → List ℕ → List ℕ → Type 0
@@ -176,25 +175,35 @@ pub record Tried (plan d top : ℕ) (runs : List ℤ) (shape : List ℕ) (n at v
   pub kept : KeptBelow at products products′
   pub stage : r ≡ true → Stage plan d top runs shape n (at + 1) z′ products′ owners′
   pub fine : r ≡ true → Fine plan d runs shape n (at + 1) z′
-  pub none : r ≡ false → NoFirstFrom plan d (searched d runs shape) n (at + 1) z′
+  pub none : r ≡ false → NoFirstFrom (Admissible plan (searched d runs shape)) d n (at + 1) z′
 
 -- what completing z from component k on gives: the new vector x, and whether it is one
-pub record Completed (plan d : ℕ) (ks : List (List ℤ)) (n k : ℕ) (z x : List ℕ) (r : Bool) : Type 0 where
+pub record Completed (rule : Rule) (d n k : ℕ) (z x : List ℕ) (r : Bool) : Type 0 where
   pub kept : Agree k x z
   pub ranged : r ≡ true → InRange n d x
-  pub admissible : r ≡ true → Admissible ks n (map pos x) plan
-  pub least : r ≡ true → (y : List ℕ) → First plan d ks n y → Agree k y z → Before y x → ⊥
-  pub none : r ≡ false → NoFirstFrom plan d ks n k z
+  pub admissible : r ≡ true → rule n (map pos x)
+  pub least : r ≡ true → (y : List ℕ) → First rule d n y → Agree k y z → Before y x → ⊥
+  pub none : r ≡ false → NoFirstFrom rule d n k z
 
 -- x is the first vector at n, or n fails with every vector
-pub record Decided (plan d : ℕ) (ks : List (List ℤ)) (n : ℕ) (x : List ℕ) (r : Bool) : Type 0 where
-  pub found : r ≡ true → First plan d ks n x
-  pub none : r ≡ false → Hopeless plan d ks n
+pub record Decided (rule : Rule) (d n : ℕ) (x : List ℕ) (r : Bool) : Type 0 where
+  pub found : r ≡ true → First rule d n x
+  pub none : r ≡ false → Hopeless rule d n
 
 -- the moduli from low to high, upward: n is the first that does not fail and x its first vector; 0 where all fail
-pub record Ascended (plan d : ℕ) (ks : List (List ℤ)) (low high : ℕ) (x : List ℕ) (n : ℕ) : Type 0 where
-  pub found : (n ≡ 0 → ⊥) → First plan d ks n x
+pub record Ascended (rule : Rule) (d low high : ℕ) (x : List ℕ) (n : ℕ) : Type 0 where
+  pub found : (n ≡ 0 → ⊥) → First rule d n x
   pub from-low : (n ≡ 0 → ⊥) → low ≤ n
   pub to-high : n ≤ high
-  pub smaller-fail : (n ≡ 0 → ⊥) → (m : ℕ) → low ≤ m → m < n → Hopeless plan d ks m
-  pub none : n ≡ 0 → (m : ℕ) → low ≤ m → m ≤ high → Hopeless plan d ks m
+  pub smaller-fail : (n ≡ 0 → ⊥) → (m : ℕ) → low ≤ m → m < n → Hopeless rule d m
+  pub none : n ≡ 0 → (m : ℕ) → low ≤ m → m ≤ high → Hopeless rule d m
+
+-- what the search of the moduli from start to end answers
+abbrev pub PlanBetween : Rule → ℕ → ℕ → ℕ → List ℕ → List ℕ → Plan → Type 0
+PlanBetween rule d start end before after (answer.Found n) = (start ≤ n) × (n ≤ end) × First rule d n after × ((m : ℕ) → start ≤ m → m < n → Hopeless rule d m)
+PlanBetween rule d start end before after (answer.Refused k) = (k ≡ 9) × (after ≡ before) × ((m : ℕ) → start ≤ m → m ≤ end → Hopeless rule d m)
+
+-- the same behind the conditions 1 to 8 of a search, with `end` for the modulus
+abbrev pub SearchBetween : ℕ → ℕ → List ℤ → ℕ → ℕ → List ℕ → List ℕ → Plan → Type 0
+SearchBetween plan d xs start end before after r =
+    RefusedOr (searchRefusal plan d xs end (length before)) before after r (PlanBetween (Admissible plan (indexList d xs)) d start end before after r)

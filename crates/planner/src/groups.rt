@@ -12,9 +12,9 @@ ghost use lib.ListN.{length, getD, take, drop};
 ghost use Rattle.rank1.specs.Tests.{sameRow};
 ghost use Rattle.rank1.specs.Index.{indexList, rowCount};
 ghost use Rattle.rank1.specs.Valid.{ValidList};
-ghost use Rattle.rank1.proofs.GroupLaws.{zeroAfter};
+ghost use Rattle.rank1.specs.Axes.{zeroAfter};
 ghost use Rattle.planner.specs.Inner.{Covered};
-ghost use Rattle.planner.specs.Stage.{Gathered, Groups, Grouping};
+ghost use Rattle.planner.specs.Stage.{GroupWritten, Groups, Grouping};
 
 // Component b of a row with zeros from axis j on.
 fn kept_component(row: &[i16], b: usize, j: usize) -> i16
@@ -48,9 +48,9 @@ fn copy_zeroed(row: &[i16], j: usize, out: &mut [i16], at: usize)
 }
 
 // Writes the rows that agree with row i from axis j on, with zeros there, to the front of out, and returns how many numbers they are.
-fn gather_group(d: usize, rows: &[i16], i: usize, j: usize, out: &mut [i16]) -> usize
+fn write_group(d: usize, rows: &[i16], i: usize, j: usize, out: &mut [i16]) -> usize
     requires { ⌜ (1 ≤ d) × (j ≤ d) × (i < rowCount d (now rows)) × (length (now rows) ≡ rowCount d (now rows) * d) × (length (now rows) ≤ length (now out)) ⌝ }
-    ensures { λ r. ⌜ Gathered d j (drop j (take d (drop (i * d) (now (rows .entry))))) (now (rows .entry)) (now (out .entry)) (now (out .exit)) r ⌝ }
+    ensures { λ r. ⌜ GroupWritten d j (drop j (take d (drop (i * d) (now (rows .entry))))) (now (rows .entry)) (now (out .entry)) (now (out .exit)) r ⌝ }
 {
     let model = row_at(rows, i, d);
     let mut at = 0;
@@ -159,7 +159,7 @@ fn add_group(
         return c;
     }
     let e = a + rows.len();
-    let r = gather_group(d, rows, i, j, &mut area[a..e]);
+    let r = write_group(d, rows, i, j, &mut area[a..e]);
     marks[9 + c] = a + r;
     c + 1
 }

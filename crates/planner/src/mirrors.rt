@@ -10,10 +10,9 @@ ghost use lib.IntN.{pos};
 ghost use lib.ListN.{length, getD, take};
 ghost use lib.Count.{ones};
 ghost use Rattle.rank1.specs.Residue.{residueAt};
-ghost use Rattle.rank1.specs.Index.{mirrors};
+ghost use Rattle.rank1.specs.Index.{mirrors, nonzeros};
 ghost use Rattle.rank1.specs.Sums.{mirrorsUnder};
 ghost use Rattle.planner.specs.Inner.{RowReady};
-ghost use Rattle.rank1.proofs.MirrorLaws.{nonzeros};
 
 // The axes on which a row is not 0, as bits.
 pub(crate) fn nonzero_mask(row: &[i16]) -> u32

@@ -1,5 +1,6 @@
 // The point list (document 01's cutting list) of a valid pair.
 
+use crate::widths::wide32;
 ghost use mathlib.Core.Path.{_≡_};
 ghost use mathlib.Core.List.{_++_};
 ghost use Prim.Native.Nat.{ℕ, _+_, _*_, _%_, _≤_, _<_};
@@ -7,12 +8,6 @@ ghost use lib.ListN.{length, getD, take};
 ghost use Rattle.rank1.specs.Points.{coordinate, pointLine, lineCount, pointList};
 ghost use Rattle.rank1.specs.Search.{InRange};
 ghost use Rattle.rank1.specs.Valid.{ValidModulus};
-
-fn wide(x: u16) -> u32
-    ensures { λ r. ⌜ r ≡ x ⌝ }
-{
-    x as u32
-}
 
 // What stands for a residue: itself for plans 0 and 1, its tent numerator for plans 2, 3 and 4.
 fn coordinate_of(plan: u8, n: u16, r: u16) -> u16
@@ -39,7 +34,7 @@ fn entry(plan: u8, n: u16, i: u16, x: u16) -> u16
     requires { ⌜ (i < n) × (x < n) × (n ≤ 8192) ⌝ }
     ensures { λ r. ⌜ r ≡ coordinate plan n ((i * x) % n) ⌝ }
 {
-    let r = wide(i) * wide(x) % wide(n);
+    let r = wide32(i) * wide32(x) % wide32(n);
     coordinate_of(plan, n, r as u16)
 }
 

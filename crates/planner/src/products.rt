@@ -1,14 +1,15 @@
 // Product tables: for each axis the residues of the products of z's component with every component that a row can have. So the
 // residue of a row is a sum of entries and one division, with no product and no sign in it.
 
+use crate::widths::wide32;
 ghost use mathlib.Core.Path.{_≡_};
 ghost use mathlib.Core.List.{map};
 ghost use Prim.Native.Nat.{ℕ, _+_, _-_, _*_, _%_, _≤_, _<_};
 ghost use lib.IntN.{pos, natAbs};
 ghost use lib.ListN.{length, getD, take, drop};
 ghost use Rattle.rank1.specs.Residue.{residueAt};
-ghost use Rattle.rank1.specs.Valid.{ValidModulus};
-ghost use Rattle.planner.specs.Inner.{place, Products, AxisSet, Covered, Prepared};
+ghost use Rattle.rank1.specs.Valid.{ValidModulus, ValidCall};
+ghost use Rattle.planner.specs.Inner.{place, Products, AxisSet, Covered, RowReady, Ready};
 
 // Where the product of x stands among the places of its axis.
 pub(crate) fn place_of(x: i16) -> usize
@@ -73,7 +74,7 @@ pub(crate) fn set_axis(products: &mut [u16], axis: usize, v: u16, n: u16, top: u
 }
 
 // Sets the products of all components of z.
-pub(crate) fn prepare(z: &[u16], n: u16, top: usize, products: &mut [u16])
+fn prepare(z: &[u16], n: u16, top: usize, products: &mut [u16])
     requires { ⌜ (length (now z) ≤ 6) × (length (now products) ≡ 3072) × ValidModulus n × (top ≤ 255) ⌝ }
     requires { ⌜ ((j : ℕ) → j < length (now z) → getD (now z) j 0 < n) ⌝ }
     ensures { λ _. ⌜ Products n (now (z .entry)) top (now (products .exit)) ⌝ }
@@ -81,6 +82,22 @@ pub(crate) fn prepare(z: &[u16], n: u16, top: usize, products: &mut [u16])
     for j in 0..z.len() {
         set_axis(products, j, z[j], n, top);
     }
+}
+
+// Sets the products of z for the rows of a valid call.
+pub(crate) fn prepare_rows(
+    plan: u8,
+    d: usize,
+    rows: &[i16],
+    n: u16,
+    z: &[u16],
+    products: &mut [u16],
+)
+    requires { ⌜ ValidCall plan d (now rows) n (now z) ⌝ }
+    requires { ⌜ length (now products) ≡ 3072 ⌝ }
+    ensures { λ _. ⌜ Ready d (now (rows .entry)) n (now (z .entry)) (now (products .exit)) ⌝ }
+{
+    prepare(z, n, largest(rows), products);
 }
 
 // Row i of a run of rows of d numbers.
@@ -93,21 +110,14 @@ pub(crate) fn row_at(rows: &[i16], i: usize, d: usize) -> &[i16]
     &rows[a..e]
 }
 
-// The residue of a row, whose components from z's length on do not count.
+// The residue of a row, which is 0 from z's length on.
 pub(crate) fn row_residue(row: &[i16], z: &[u16], n: u16, products: &[u16]) -> u16
-    requires { ⌜ (length (now z) ≤ length (now row)) × (length (now z) ≤ 6) × ValidModulus n ⌝ }
-    requires { ⌜ Prepared n (now z) (now row) (now products) ⌝ }
+    requires { ⌜ RowReady n (now z) (now row) (now products) ⌝ }
     ensures { λ r. ⌜ (r ≡ residueAt n (map pos (now (z .entry))) (now (row .entry))) × (r < n) ⌝ }
 {
     let mut sum: u32 = 0;
     for j in 0..z.len() {
-        sum += wide(products[j * 512 + place_of(row[j])]);
+        sum += wide32(products[j * 512 + place_of(row[j])]);
     }
-    (sum % wide(n)) as u16
-}
-
-fn wide(x: u16) -> u32
-    ensures { λ r. ⌜ r ≡ x ⌝ }
-{
-    x as u32
+    (sum % wide32(n)) as u16
 }

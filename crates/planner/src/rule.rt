@@ -5,21 +5,20 @@
 use crate::mirrors::mirror_count;
 use crate::mirrors::mirror_residues;
 use crate::mirrors::nonzero_mask;
-use crate::products::largest;
-use crate::products::prepare;
+use crate::products::prepare_rows;
 use crate::products::row_at;
 use crate::products::row_residue;
+use crate::widths::wide;
 ghost use mathlib.Core.Path.{_≡_};
 ghost use mathlib.Core.Bool.{true, false};
 ghost use mathlib.Core.List.{List, map, List·Memᴰ};
-ghost use Prim.Native.Nat.{ℕ, _≤_, _<_};
+ghost use Prim.Native.Nat.{_≤_, _<_};
 ghost use lib.IntN.{ℤ, pos};
 ghost use lib.ListN.{length};
 ghost use Rattle.rank1.specs.Index.{indexList, rowCount};
-ghost use Rattle.rank1.specs.Rule.{Integrates, Reconstructs, PlanA, Admissible};
+ghost use Rattle.rank1.specs.Rule.{Integrates, PlanA, Admissible};
 ghost use Rattle.rank1.specs.RuleTest.{admissible};
-ghost use Rattle.rank1.specs.Search.{InRange};
-ghost use Rattle.rank1.specs.Valid.{Nonnegative, ValidList, ValidModulus};
+ghost use Rattle.rank1.specs.Valid.{Nonnegative, ValidCall};
 ghost use Rattle.planner.specs.Inner.{Decides, Ready, Owners, Recorded, Clear, residueOf, clash};
 
 // Empties the first n entries of a table.
@@ -30,12 +29,6 @@ fn clear(table: &mut [u16], n: usize)
     for x in 0..n {
         table[x] = 0;
     }
-}
-
-fn wide(x: u16) -> usize
-    ensures { λ r. ⌜ r ≡ x ⌝ }
-{
-    x as usize
 }
 
 // Plan 0: no row other than the zero row has residue 0.
@@ -125,7 +118,7 @@ fn mirrors_apart(
     requires { ⌜ (3 ≤ plan) × (plan ≤ 4) × (n ≤ length (now owners)) ⌝ }
     requires { ⌜ ((k : List ℤ) → List·Memᴰ k (indexList d (now rows)) → Nonnegative k) ⌝ }
     requires { ⌜ Owners (residueOf n (now z) (indexList d (now rows))) n (rowCount d (now rows)) (now owners) ⌝ }
-    ensures { λ r. ⌜ Decides r (Admissible (indexList d (now (rows .entry))) n (map pos (now (z .entry))) plan) ⌝ }
+    ensures { λ r. ⌜ Decides r (Admissible plan (indexList d (now (rows .entry))) n (map pos (now (z .entry)))) ⌝ }
 {
     let mut residues = [0u16; 64];
     let mut apart = true;
@@ -170,7 +163,7 @@ pub(crate) fn rule_holds(
     requires { ⌜ Ready d (now rows) n (now z) (now products) ⌝ }
     requires { ⌜ (plan ≤ 4) × (n ≤ length (now owners)) ⌝ }
     requires { ⌜ (2 ≤ plan → (k : List ℤ) → List·Memᴰ k (indexList d (now rows)) → Nonnegative k) ⌝ }
-    ensures { λ r. ⌜ Decides r (Admissible (indexList d (now (rows .entry))) n (map pos (now (z .entry))) plan) ⌝ }
+    ensures { λ r. ⌜ Decides r (Admissible plan (indexList d (now (rows .entry))) n (map pos (now (z .entry)))) ⌝ }
 {
     if plan == 0 {
         return integrates(d, rows, n, z, products);
@@ -189,11 +182,11 @@ pub(crate) fn rule_holds(
 
 // The plan's rule of a valid list and pair, with tables of its own.
 pub(crate) fn admits(plan: u8, d: usize, rows: &[i16], n: u16, z: &[u16]) -> bool
-    requires { ⌜ (plan ≤ 4) × ValidList plan d (now rows) × ValidModulus n × InRange n d (now z) ⌝ }
-    ensures { λ r. ⌜ r ≡ admissible (indexList d (now (rows .entry))) n (map pos (now (z .entry))) plan ⌝ }
+    requires { ⌜ ValidCall plan d (now rows) n (now z) ⌝ }
+    ensures { λ r. ⌜ r ≡ admissible plan (indexList d (now (rows .entry))) n (map pos (now (z .entry))) ⌝ }
 {
     let mut products = [0u16; 3072];
     let mut owners = [0u16; 8192];
-    prepare(z, n, largest(rows), &mut products);
+    prepare_rows(plan, d, rows, n, z, &mut products);
     rule_holds(plan, d, rows, n, z, &products, &mut owners)
 }

@@ -15,17 +15,15 @@ ghost use mathlib.Core.Path.{_≡_};
 ghost use mathlib.Core.Bool.{true, false};
 ghost use mathlib.Core.List.{_++_, List·Memᴰ};
 ghost use Prim.Native.Nat.{ℕ, _+_, _*_, _%_, _≤_, _<_};
-ghost use lib.IntN.{pos};
 ghost use lib.Dec.{eqb};
 ghost use mathlib.Core.Bool.{_||_};
 ghost use lib.ListN.{length, getD, take, drop};
 ghost use Rattle.rank1.specs.Index.{indexList, rowCount};
 ghost use Rattle.rank1.specs.Rule.{Admissible};
 ghost use Rattle.rank1.specs.Valid.{ValidList, ValidModulus};
-ghost use Rattle.rank1.proofs.SwapLaws.{swap, Interchangeable};
+ghost use Rattle.rank1.specs.Axes.{swap, Interchangeable};
 ghost use Rattle.planner.specs.Inner.{Decides, Covered};
-ghost use Rattle.planner.specs.Answer.{PlanBetween};
-ghost use Rattle.planner.specs.Stage.{zeroFrom, searched, otherAxis, Swaps, LevelsTo, Levels, Stage, Fine, NoFirstFrom, KeptBelow, Falls, RuledOut, Tried, Completed, Decided, Ascended, Kept};
+ghost use Rattle.planner.specs.Stage.{zeroFrom, searched, otherAxis, Swaps, LevelsTo, Levels, Stage, Fine, NoFirstFrom, KeptBelow, Falls, RuledOut, Tried, Completed, Decided, Ascended, PlanBetween, Kept};
 
 // Whether a row is 0 from axis j on.
 fn ends_by(row: &[i16], j: usize) -> bool
@@ -186,7 +184,7 @@ fn groups_hold(
     owners: &mut [u16],
 ) -> bool
     requires { ⌜ Stage plan d top (now runs) (now shape) n at (now z) (now products) (now owners) ⌝ }
-    ensures { λ r. ⌜ (r ≡ false → NoFirstFrom plan d (searched d (now (runs .entry)) (now (shape .entry))) n at (now (z .entry))) ⌝ }
+    ensures { λ r. ⌜ (r ≡ false → NoFirstFrom (Admissible plan (searched d (now (runs .entry)) (now (shape .entry)))) d n at (now (z .entry))) ⌝ }
 {
     for g in shape[43 + at]..shape[44 + at] {
         let a = 21504 + shape[51 + g];
@@ -284,7 +282,7 @@ fn complete(
 ) -> bool
     requires { ⌜ Stage plan d top (now runs) (now shape) n at (now z) (now products) (now owners) ⌝ }
     requires { ⌜ Fine plan d (now runs) (now shape) n at (now z) ⌝ }
-    ensures { λ r. ⌜ Completed plan d (searched d (now (runs .entry)) (now (shape .entry))) n at (now (z .entry)) (now (z .exit)) r ⌝ }
+    ensures { λ r. ⌜ Completed (Admissible plan (searched d (now (runs .entry)) (now (shape .entry)))) d n at (now (z .entry)) (now (z .exit)) r ⌝ }
     ensures { λ _. ⌜ KeptBelow at (now (products .entry)) (now (products .exit)) ⌝ }
 {
     if at == d {
@@ -314,7 +312,7 @@ fn first_vector(
 ) -> bool
     requires { ⌜ Levels plan d top (now runs) (now shape) ⌝ }
     requires { ⌜ ValidModulus n × (length (now z) ≡ d) × (length (now products) ≡ 3072) × (n ≤ length (now owners)) ⌝ }
-    ensures { λ r. ⌜ Decided plan d (searched d (now (runs .entry)) (now (shape .entry))) n (now (z .exit)) r ⌝ }
+    ensures { λ r. ⌜ Decided (Admissible plan (searched d (now (runs .entry)) (now (shape .entry)))) d n (now (z .exit)) r ⌝ }
 {
     if 0 < plan {
         if (n as usize) < shape[d] / d {
@@ -342,7 +340,7 @@ fn first_modulus(
 ) -> u16
     requires { ⌜ Levels plan d top (now runs) (now shape) ⌝ }
     requires { ⌜ (1 ≤ low) × (high ≤ 8192) × (length (now z) ≡ d) × (length (now products) ≡ 3072) × (length (now owners) ≡ 8192) ⌝ }
-    ensures { λ r. ⌜ Ascended plan d (searched d (now (runs .entry)) (now (shape .entry))) low high (now (z .exit)) r ⌝ }
+    ensures { λ r. ⌜ Ascended (Admissible plan (searched d (now (runs .entry)) (now (shape .entry)))) d low high (now (z .exit)) r ⌝ }
 {
     let mut n = low;
     while n <= high {
@@ -375,7 +373,7 @@ pub(crate) fn first_plan(
     z: &mut [u16],
 ) -> Plan
     requires { ⌜ (plan ≤ 4) × ValidList plan d (now rows) × (1 ≤ low) × (high ≤ 8192) × (length (now z) ≡ d) ⌝ }
-    ensures { λ r. ⌜ PlanBetween plan d (indexList d (now (rows .entry))) low high (now (z .entry)) (now (z .exit)) r ⌝ }
+    ensures { λ r. ⌜ PlanBetween (Admissible plan (indexList d (now (rows .entry)))) d low high (now (z .entry)) (now (z .exit)) r ⌝ }
 {
     let mut runs = [0i16; 39936];
     let mut shape = [0usize; 2612];

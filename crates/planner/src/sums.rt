@@ -2,30 +2,23 @@
 
 use crate::mirrors::residues_under;
 use crate::products::row_at;
+use crate::widths::wide;
 ghost use mathlib.Core.Path.{_≡_};
 ghost use mathlib.Core.Bool.{true};
-ghost use mathlib.Core.List.{List, [], map, List·Memᴰ};
-ghost use Prim.Native.Nat.{ℕ, _+_, _*_, _^_, _≤_, _<_};
-ghost use lib.Dec.{eqb};
-ghost use lib.IntN.{ℤ, pos, natAbs, _+ℤ_, _*ℤ_};
+ghost use mathlib.Core.List.{[], map};
+ghost use Prim.Native.Nat.{ℕ, _+_, _*_, _≤_, _<_};
+ghost use lib.IntN.{pos, _+ℤ_, _*ℤ_};
 ghost use lib.Signed.{quotZ};
 ghost use lib.ListN.{length, getD, take};
 ghost use Rattle.rank1.specs.Tests.{every};
-ghost use Rattle.rank1.specs.Residue.{residueAt};
 ghost use Rattle.rank1.specs.Index.{rowCount, indexList};
 ghost use Rattle.rank1.specs.Sums.{in32, residueMap, spreadSums, gathers, gatheredTerms};
-ghost use Rattle.planner.specs.Inner.{RowReady, Ready, occurrences, Shared, divides, EntryOf};
+ghost use Rattle.planner.specs.Inner.{RowReady, Ready, occurrences, Addable, divides, EntryOf};
 
 // A row's residue and its c.
 struct Entry {
     residue: u16,
     copies: u16,
-}
-
-fn wide(x: u16) -> usize
-    ensures { λ r. ⌜ r ≡ x ⌝ }
-{
-    x as usize
 }
 
 // How often x stands among the first count numbers.
@@ -54,6 +47,23 @@ fn entry_of(plan: u8, row: &[i16], z: &[u16], n: u16, products: &[u16]) -> Entry
     Entry { residue, copies }
 }
 
+// The residue and c of row i.
+fn entry_at(
+    plan: u8,
+    d: usize,
+    rows: &[i16],
+    i: usize,
+    n: u16,
+    z: &[u16],
+    products: &[u16],
+) -> Entry
+    requires { ⌜ Ready d (now rows) n (now z) (now products) ⌝ }
+    requires { ⌜ i < rowCount d (now rows) ⌝ }
+    ensures { λ r. ⌜ EntryOf plan n (now (z .entry)) (getD (indexList d (now (rows .entry))) i []) (r .residue) (r .copies) ⌝ }
+{
+    entry_of(plan, row_at(rows, i, d), z, n, products)
+}
+
 // The map: for each row its residue and then its c.
 pub(crate) fn write_map(
     plan: u8,
@@ -69,7 +79,7 @@ pub(crate) fn write_map(
     ensures { λ _. ⌜ now (out .exit) ≡ residueMap plan n (map pos (now (z .entry))) (indexList d (now (rows .entry))) ⌝ }
 {
     for i in 0..rows.len() / d {
-        let e = entry_of(plan, row_at(rows, i, d), z, n, products);
+        let e = entry_at(plan, d, rows, i, n, z, products);
         out[2 * i] = e.residue;
         out[2 * i + 1] = e.copies;
     }
@@ -86,7 +96,7 @@ fn clear_sums(sums: &mut [i64])
 
 // Adds a at each of the first count residues.
 fn add_term(a: i64, residues: &[u16], count: usize, sums: &mut [i64])
-    requires { ⌜ Shared a (take count (now residues)) (now sums) ⌝ }
+    requires { ⌜ Addable a (take count (now residues)) (now sums) ⌝ }
     requires { ⌜ count ≤ length (now residues) ⌝ }
     ensures { λ _. ⌜ ((r : ℕ) → getD (now (sums .exit)) r (pos 0) ≡ getD (now (sums .entry)) r (pos 0) +ℤ (a *ℤ pos (occurrences r (take count (now (residues .entry)))))) ⌝ }
 {
@@ -102,7 +112,7 @@ fn long(x: i32) -> i64
     x as i64
 }
 
-// Spreading: the n sums.
+// Spreading: the n sums. Every term was read, so all are numbers of 32 bits.
 pub(crate) fn write_sums(
     plan: u8,
     d: usize,
@@ -115,7 +125,7 @@ pub(crate) fn write_sums(
 )
     requires { ⌜ Ready d (now rows) n (now z) (now products) ⌝ }
     requires { ⌜ (length (now terms) ≡ rowCount d (now rows)) × (length (now sums) ≡ n) ⌝ }
-    ensures { λ _. ⌜ now (sums .exit) ≡ spreadSums plan n (map pos (now (z .entry))) (indexList d (now (rows .entry))) (now (terms .entry)) ⌝ }
+    ensures { λ _. ⌜ (now (sums .exit) ≡ spreadSums plan n (map pos (now (z .entry))) (indexList d (now (rows .entry))) (now (terms .entry))) × (every in32 (now (terms .entry)) ≡ true) ⌝ }
 {
     clear_sums(sums);
     let mut residues = [0u16; 64];
@@ -168,7 +178,7 @@ pub(crate) fn all_gather(
     ensures { λ r. ⌜ r ≡ every (gathers plan n (map pos (now (z .entry))) (now (sums .entry))) (indexList d (now (rows .entry))) ⌝ }
 {
     for i in 0..rows.len() / d {
-        let e = entry_of(plan, row_at(rows, i, d), z, n, products);
+        let e = entry_at(plan, d, rows, i, n, z, products);
         let r = wide(e.residue);
         if !divides_evenly(sums[r], e.copies) {
             return false;
@@ -194,7 +204,7 @@ pub(crate) fn write_terms(
     ensures { λ _. ⌜ now (terms .exit) ≡ gatheredTerms plan n (map pos (now (z .entry))) (indexList d (now (rows .entry))) (now (sums .entry)) ⌝ }
 {
     for i in 0..terms.len() {
-        let e = entry_of(plan, row_at(rows, i, d), z, n, products);
+        let e = entry_at(plan, d, rows, i, n, z, products);
         let r = wide(e.residue);
         terms[i] = quotient_of(sums[r], e.copies);
     }

@@ -2,7 +2,7 @@
 use mathlib.Core.Path.{_≡_, refl, sym, _∙_, ap, subst}
 use mathlib.Core.Logic.{_≢_, _⊎_, inl, inr}
 use Prim.Native.Nat.{ℕ, zero, suc, _+_, _*_, _/_, _%_, _<_, _≤_}
-use native.Mathlib.Nat.{mul-zero, mul-one, one-mul, mul-add, mul-assoc, mul-comm, suc-mul, mul-left-comm, mul-mul-mul-comm, mul-mod-right, mul-add-mod-self-left, add-mul-mod-self-left, add-mul-mod-self-right, div-add-mod, mod-lt, mod-eq-of-lt, mul-le-mul-right, le-mul-of-pos-right, zero-mod, zero-mul, mod-mod-of-dvd, dvd-of-mod-eq-zero}
+use native.Mathlib.Nat.{mul-zero, mul-one, one-mul, mul-add, mul-assoc, mul-comm, suc-mul, mul-left-comm, mul-mul-mul-comm, mul-mod-right, mul-add-mod-self-left, add-mul-mod-self-left, add-mul-mod-self-right, div-add-mod, mod-lt, mod-eq-of-lt, mul-le-mul-right, le-mul-of-pos-right}
 use native.Mathlib.Decide.{ℕ-discrete}
 use native.Mathlib.Omega.{arith}
 use Rattle.rank1.proofs.Modulo.{mod-mul-left, mul-mod, cancel}
@@ -268,27 +268,6 @@ pub record Shared (a n : ℕ) : Type 0 where
   pub above : 2 ≤ factor
   pub left : a % factor ≡ 0
   pub right : n % factor ≡ 0
-
--- a common factor above 1 leaves no inverse
-pub shared-not : (a n : ℕ) → Coprime a n → Shared a n → ⊥
-shared-not a n c s =
-    omega (arith, one, mod-eq-of-lt {n = 1} {m = s .factor} (omega (arith, s .above)))
-  where
-    q : ℕ
-    q = s .factor
-
-    down : (x : ℕ) → x % n % q ≡ x % q
-    down x = mod-mod-of-dvd q {b = n} x (dvd-of-mod-eq-zero q (s .right))
-
-    one : 1 % q ≡ 0
-    one =
-        sym (down 1)
-        ∙ ap (λ (k : ℕ). k % q) (sym (c .is))
-        ∙ down (a * c .inverse)
-        ∙ sym (mod-mul-left a (c .inverse) q)
-        ∙ ap (λ (k : ℕ). (k * c .inverse) % q) (s .left)
-        ∙ ap (λ (k : ℕ). k % q) (zero-mul (c .inverse))
-        ∙ zero-mod q
 
 -- one or the other
 pub coprime-or-shared : (a n : ℕ) → 0 < n → Coprime a n ⊎ Shared a n

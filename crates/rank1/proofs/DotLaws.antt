@@ -1,14 +1,14 @@
 -- The laws of h·z.
-use mathlib.Core.Path.{_≡_, refl, sym, _∙_, ap, subst}
+use mathlib.Core.Path.{_≡_, refl, sym, _∙_, ap}
 use mathlib.Core.Logic.{_↔_}
 use mathlib.Core.List.{List, [], _∷_, map}
-use Prim.Native.Nat.{ℕ, zero, suc, _+_, _*_, _-_, _/_, _%_, _<_, _≤_}
-use native.Mathlib.Nat.{mul-assoc, mul-comm, one-mul, mul-add, mul-mod-left, zero-mod, add-assoc, add-mod-mod, mod-add-mod}
+use Prim.Native.Nat.{ℕ, _+_, _*_, _%_, _<_}
+use native.Mathlib.Nat.{mul-assoc, mul-comm, one-mul, mul-add, add-assoc, add-mod-mod, mod-add-mod}
 use native.Mathlib.Omega.{arith}
-use lib.IntN.{ℤ, pos, negsuc, _+ℤ_, _-ℤ_, _*ℤ_, negℤ, negℤ-+ℤ, +ℤ-idl, *ℤ-zero, *ℤ-comm}
+use lib.IntN.{ℤ, pos, _+ℤ_, _-ℤ_, _*ℤ_, negℤ, negℤ-+ℤ, *ℤ-zero}
 use lib.ListN.{length}
 use Rattle.rank1.specs.Residue.{residue, dot}
-use Rattle.rank1.proofs.ResidueLaws.{residue-add, residue-mul, residue-idem, residue-mod, residue-is, difference-zero, zero-difference}
+use Rattle.rank1.proofs.ResidueLaws.{residue-add, residue-mul, residue-idem, residue-mod, difference-zero, zero-difference}
 use Rattle.rank1.proofs.Modulo.{mod-mul-left, mod-mul-right}
 use Rattle.rank1.proofs.Whole as W
 
@@ -74,18 +74,6 @@ scaled-equal n u v hs ks zs l i = (there, back)
     back e = sym (undone hs) ∙ ap (λ (k : ℕ). (residue n v * k) % n) e ∙ undone ks
 
 -- ---- a sum of terms that are not below 0, with one division at its end
--- a factor that is not below 0, and one that is: |x| (n - z) in place of x z
-pub term-pos : (n a z : ℕ) → (a * z) % n ≡ residue n (pos a *ℤ pos z)
-term-pos n a z = refl
-
-pub term-neg : (n a z : ℕ) → 0 < n → z ≤ n → (suc a * (n - z)) % n ≡ residue n (negsuc a *ℤ pos z)
-term-neg n a z h l =
-    sym (residue-is n 0 (suc a * z) (suc a * (n - z)) (negsuc a *ℤ pos z) h (sym (+ℤ-idl (negsuc a *ℤ pos z)))
-    (ap (λ (k : ℕ). k % n) (sym (mul-add (suc a) (n - z) z) ∙ ap (λ (k : ℕ). suc a * k) whole) ∙ mul-mod-left (suc a) n ∙ sym (zero-mod n)))
-  where
-    whole : n - z + z ≡ n
-    whole = omega arith
-
 -- one turn: the sum takes the head's term, and the rest of the row is left
 pub dot-turn : (n s t : ℕ) (x z : ℤ) (hs zs : List ℤ) → 0 < n → t % n ≡ residue n (x *ℤ z) → (s + t + residue n (dot hs zs)) % n ≡ (s + residue n (dot (x ∷ hs) (z ∷ zs))) % n
 dot-turn n s t x z hs zs h e =

@@ -3,16 +3,16 @@
 use mathlib.Core.Path.{_≡_, sym, _∙_, ap}
 use mathlib.Core.Logic.{_≢_, _⊎_, inl, inr}
 use mathlib.Core.List.{List, [], _∷_}
-use Prim.Native.Nat.{ℕ, zero, suc, _+_, _*_, _/_, _%_, _<_, _≤_}
-use native.Mathlib.Nat.{mul-zero, zero-mod, div-add-mod, mul-le-mul-left, mul-one}
+use Prim.Native.Nat.{ℕ, zero, suc, _*_, _%_, _<_, _≤_}
+use native.Mathlib.Nat.{mul-zero, zero-mod}
 use native.Mathlib.Decide.{ℕ-discrete}
 use native.Mathlib.Omega.{arith}
-use lib.IntN.{ℤ}
 use lib.ListN.{length, getD}
+use Rattle.rank1.specs.Rule.{Rule}
 use Rattle.rank1.specs.Search.{Before, First}
 use Rattle.rank1.proofs.SearchLaws.{none-before}
 use Rattle.rank1.proofs.Coprime.{Coprime, Lowered, lower}
-use Rattle.rank1.proofs.VectorLaws.{times, times-ranged, times-admissible}
+use Rattle.rank1.proofs.VectorLaws.{times, times-ranged, Scales}
 
 -- the components before j are 0
 abbrev pub Leading : List ℕ → ℕ → Type 0
@@ -28,21 +28,12 @@ times-before n u (x ∷ z) (suc j) h o l = inr (nil ∙ sym (o 0 (omega arith)),
     nil : (u * x) % n ≡ 0
     nil = ap (λ (k : ℕ). (u * k) % n) (o 0 (omega arith)) ∙ ap (λ (k : ℕ). k % n) (mul-zero u) ∙ zero-mod n
 
--- a divisor of n below n is at most its half
-divisor-half : (n v : ℕ) → v < n → n % v ≡ 0 → 2 * v ≤ n
-divisor-half n v l e = go (n / v) (div-add-mod n v)
-  where
-    go : (q : ℕ) → v * q + n % v ≡ n → 2 * v ≤ n
-    go zero w = absurd (omega (arith, mul-zero v))
-    go (suc zero) w = absurd (omega (arith, mul-one v))
-    go (suc (suc q)) w = omega (arith, mul-le-mul-left {m = 2} {n = suc (suc q)} v (omega arith))
-
-module _ (plan d : ℕ) (ks : List (List ℤ)) (n : ℕ) (z : List ℕ) (h : 0 < n) (f : First plan d ks n z) (j : ℕ) (within : j < d) (o : Leading z j) where
+module _ (rule : Rule) (scales : Scales rule) (d n : ℕ) (z : List ℕ) (h : 0 < n) (f : First rule d n z) (j : ℕ) (within : j < d) (o : Leading z j) where
   -- no multiple of the first vector by a number with an inverse comes before it
   no-lower : (u : ℕ) → Coprime u n → (u * getD z j 0) % n < getD z j 0 → ⊥
   no-lower u c l =
-      none-before plan d ks n z f (times n u z) (times-ranged n d u z h (f .ranged .size))
-      (times-admissible plan ks n u z h c .0 (f .admissible))
+      none-before rule d n z f (times n u z) (times-ranged n d u z h (f .ranged .size))
+      (scales n u z h c (f .admissible))
       (times-before n u z j (omega (arith, f .ranged .size)) o l)
 
   -- after leading zeros comes 0 or a divisor of n
@@ -59,14 +50,6 @@ module _ (plan d : ℕ) (ks : List (List ℤ)) (n : ℕ) (z : List ℕ) (h : 0 <
           contra : Lowered n (getD z j 0) → ⊥
           contra w = no-lower (w .times) (w .apart) (w .less)
 
-  -- so under every plan it is at most half of n
-  pub first-leading-half : 2 * getD z j 0 ≤ n
-  first-leading-half = go first-divides
-    where
-      go : (getD z j 0 ≡ 0) ⊎ (n % getD z j 0 ≡ 0) → 2 * getD z j 0 ≤ n
-      go (inl e) = omega arith
-      go (inr e) = divisor-half n (getD z j 0) (f .ranged .below j within) e
-
 -- in short: the first component is 0 or divides n
-pub first-component : (plan d : ℕ) (ks : List (List ℤ)) (n : ℕ) (z : List ℕ) → 0 < n → 1 ≤ d → First plan d ks n z → (getD z 0 0 ≡ 0) ⊎ (n % getD z 0 0 ≡ 0)
-first-component plan d ks n z h l f = first-divides plan d ks n z h f 0 l (λ i k. absurd (omega arith))
+pub first-component : (rule : Rule) → Scales rule → (d n : ℕ) (z : List ℕ) → 0 < n → 1 ≤ d → First rule d n z → (getD z 0 0 ≡ 0) ⊎ (n % getD z 0 0 ≡ 0)
+first-component rule scales d n z h l f = first-divides rule scales d n z h f 0 l (λ i k. absurd (omega arith))

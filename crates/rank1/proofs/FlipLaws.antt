@@ -11,11 +11,11 @@ use lib.IntN.{ℤ, pos, negsuc, natAbs, negℤ, negℤ-negℤ, _+ℤ_, _*ℤ_, *
 use lib.ListN.{length, getD, length-map, List·getD-map}
 use Rattle.rank1.specs.Residue.{residue, dot, residueAt}
 use Rattle.rank1.specs.Index.{mirrored}
-use Rattle.rank1.specs.Rule.{Admissible}
+use Rattle.rank1.specs.Rule.{Rule, Admissible}
 use Rattle.rank1.specs.Search.{First}
 use Rattle.rank1.proofs.Whole.{neg-mul}
 use Rattle.rank1.proofs.MirrorLaws.{sizes, mirror-sizes, sizes-mirror, mirrored-in, mirrored-out}
-use Rattle.rank1.proofs.RuleLaws.{Apart}
+use Rattle.rank1.proofs.RuleLaws.{Apart, Reduces}
 use Rattle.rank1.proofs.SymmetryLaws.{moved, none-lower}
 
 -- the other sign at component j
@@ -88,7 +88,7 @@ flip-mirrored ks j s m =
     (sizes-mirror (r .row) (flip j s) (flip-sizes j s ∙ mirror-sizes (r .row) s (r .mirror)))
 
 -- z with the other sign at one component is admissible with z
-pub flip-admissible : (ks : List (List ℤ)) (n : ℕ) (z : List ℤ) (j : ℕ) → Admissible ks n z 2 → Admissible ks n (flip j z) 2
+pub flip-admissible : (ks : List (List ℤ)) (n : ℕ) (z : List ℤ) (j : ℕ) → Admissible 2 ks n z → Admissible 2 ks n (flip j z)
 flip-admissible ks n z j = moved 2 ks n z (flip j z) (flip j) pairs (λ s t p. (equal s, equal t))
   where
     pairs : (s t : List ℤ) → Apart 2 ks s t → Apart 2 ks (flip j s) (flip j t)
@@ -97,15 +97,22 @@ flip-admissible ks n z j = moved 2 ks n z (flip j z) (flip j) pairs (λ s t p. (
     equal : (s : List ℤ) → residueAt n z (flip j s) ≡ residueAt n (flip j z) s
     equal s = ap (residue n) (dot-flip j s z)
 
+-- what a law of the search asks of a rule: that it passes to z with the other sign at component j
+abbrev pub Flips : ℕ → Rule → Type 0
+Flips j rule = (n : ℕ) (z : List ℤ) → rule n z → rule n (flip j z)
+
+pub plan-a-flips : (ks : List (List ℤ)) (j : ℕ) → Flips j (Admissible 2 ks)
+plan-a-flips ks j n z = flip-admissible ks n z j
+
 -- ---- the first vector
 -- above half of n, the residue of -c is less than c
 residue-lower : (n c : ℕ) → c < n → n < 2 * c → residue n (negℤ (pos c)) < c
 residue-lower n zero l g = absurd (omega arith)
 residue-lower n (suc b) l g = omega (arith, mod-eq-of-lt {n = b} {m = n} (omega arith))
 
--- under plan A no component of the first vector is above half of n
-pub flip-first : (d : ℕ) (ks : List (List ℤ)) (n : ℕ) (z : List ℕ) (j : ℕ) → j < d → 0 < n → First 2 d ks n z → 2 * getD z j 0 ≤ n
-flip-first d ks n z j l h f = go (decLe (2 * getD z j 0) n)
+-- where the rule does not see the sign of a component of z, that of the first vector is not above half of n
+pub flip-first : (rule : Rule) (d n : ℕ) (z : List ℕ) (j : ℕ) → Reduces rule → Flips j rule → j < d → 0 < n → First rule d n z → 2 * getD z j 0 ≤ n
+flip-first rule d n z j passes flips l h f = go (decLe (2 * getD z j 0) n)
   where
     c : ℕ
     c = getD z j 0
@@ -119,6 +126,6 @@ flip-first d ks n z j l h f = go (decLe (2 * getD z j 0) n)
     go : Dec (2 * getD z j 0 ≤ n) → 2 * getD z j 0 ≤ n
     go (yes r) = r
     go (no r) =
-        absurd (none-lower 2 d ks n z h f (flip j (map pos z)) (length-flip j (map pos z) ∙ length-map z pos ∙ f .ranged .size)
-        (flip-admissible ks n (map pos z) j (f .admissible)) j l before
+        absurd (none-lower rule passes d n z h f (flip j (map pos z)) (length-flip j (map pos z) ∙ length-map z pos ∙ f .ranged .size)
+        (flips n (map pos z) (f .admissible)) j l before
         (subst (λ (x : ℤ). residue n x < c) (sym there) (residue-lower n c (f .ranged .below j l) (omega arith))))

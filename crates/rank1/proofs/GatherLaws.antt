@@ -31,7 +31,7 @@ abbrev pub RowsApart : ℕ → ℕ → List ℤ → List (List ℤ) → Type 0
 RowsApart plan n z ks = (k k′ s : List ℤ) → List·Memᴰ k ks → List·Memᴰ k′ ks → k ≢ k′ → List·Memᴰ s (mirrorsUnder plan k′) → residueAt n z s ≢ residueAt n z k
 
 -- the rules of plans 1 to 4 ask for it, those of plans 2 and 3 because rows without negative components share no mirror
-pub shares-apart : (plan n : ℕ) (z : List ℤ) (ks : List (List ℤ)) → 1 ≤ plan → (2 ≤ plan → (k : List ℤ) → List·Memᴰ k ks → Nonnegative k) → Admissible ks n z plan → RowsApart plan n z ks
+pub shares-apart : (plan n : ℕ) (z : List ℤ) (ks : List (List ℤ)) → 1 ≤ plan → (2 ≤ plan → (k : List ℤ) → List·Memᴰ k ks → Nonnegative k) → Admissible plan ks n z → RowsApart plan n z ks
 unfolding Reconstructs PlanA PlanB PlanC
 shares-apart zero n z ks l p r k k′ s m m′ d i = absurd (omega arith)
 shares-apart (suc zero) n z ks l p r k k′ s m m′ d i = λ e. r k k′ m m′ d (sym e ∙ ap (residueAt n z) (List·Memᴰ·eq-of-singleton i))
@@ -101,7 +101,7 @@ module _ (plan n : ℕ) (z : List ℤ) where
         (b (getD terms j (pos 0)) (member-at terms (pos 0) j (omega arith)))))
 
 -- ---- plans 1 to 4
-module _ (plan n : ℕ) (z : List ℤ) (ks : List (List ℤ)) (terms : List ℤ) (from : 1 ≤ plan) (l : 0 < n) (d : Distinct ks) (p : 2 ≤ plan → (k : List ℤ) → List·Memᴰ k ks → Nonnegative k) (r : Admissible ks n z plan) (e : length terms ≡ length ks) where
+module _ (plan n : ℕ) (z : List ℤ) (ks : List (List ℤ)) (terms : List ℤ) (from : 1 ≤ plan) (l : 0 < n) (d : Distinct ks) (p : 2 ≤ plan → (k : List ℤ) → List·Memᴰ k ks → Nonnegative k) (r : Admissible plan ks n z) (e : length terms ≡ length ks) where
   -- gathering after spreading gives the terms back
   pub gather-spread : gatheredTerms plan n z ks (spreadSums plan n z ks terms) ≡ terms
   gather-spread = gather-apart plan n z ks terms l d (shares-apart plan n z ks from p r) e

@@ -11,15 +11,10 @@ use lib.ListN.{length, drop}
 use Rattle.rank1.specs.Residue.{residue, dot, residueAt}
 use Rattle.rank1.specs.Index.{zeroRow, mirrors, mirrored}
 use Rattle.rank1.specs.Rule.{Admissible}
+use Rattle.rank1.specs.Axes.{zeroAfter}
 use Rattle.rank1.proofs.ResidueLaws.{residue-add}
 use Rattle.rank1.proofs.MirrorLaws.{sizes, abs-zero, mirror-sizes, sizes-mirror, mirrored-in, mirrored-out}
 use Rattle.rank1.proofs.RuleLaws.{Apart, Within, one-rule}
-
--- the first j components of a row, then zeros
-abbrev pub zeroAfter : ℕ → List ℤ → List ℤ
-zeroAfter zero k = zeroRow (length k)
-zeroAfter (suc j) [] = []
-zeroAfter (suc j) (x ∷ k) = x ∷ zeroAfter j k
 
 -- the first j components of s, then u
 abbrev pub putBack : ℕ → List ℤ → List ℤ → List ℤ
@@ -192,7 +187,7 @@ module _ (ks group : List (List ℤ)) (j : ℕ) (u : List ℤ) (within : Within 
       ∙ residue-add n (dot s z) (dot u (drop j z)) l
 
   -- the law: the group with zeros in place of its common later part is admissible where the list is
-  pub group-holds : (plan n : ℕ) (z : List ℤ) → 1 ≤ plan → plan ≤ 4 → 0 < n → Admissible ks n z plan → Admissible zeroed n z plan
+  pub group-holds : (plan n : ℕ) (z : List ℤ) → 1 ≤ plan → plan ≤ 4 → 0 < n → Admissible plan ks n z → Admissible plan zeroed n z
   group-holds plan n z l h o a =
       one-rule zeroed n z plan .1
       (λ s t p e. let b = apart-back plan l h s t p in

@@ -2,7 +2,7 @@
 -- made so (a head for each sign), and so are all vectors in range (a head for each number below n).
 use mathlib.Core.Path.{_≡_, refl, sym, _∙_, ap}
 use mathlib.Core.Logic.{⊎-elim}
-use mathlib.Core.List.{List, [], _∷_, _++_, map, List·Memᴰ, List·Memᴰ·head, List·Memᴰ·tail, List·Memᴰ·not-nil, List·Memᴰ·cases-cons, List·Memᴰ·append-cases, Memᴰ·append-left, Memᴰ·append-right, Memᴰ·map, Memᴰ·of-map, Memᴰ·cast, head-eq-of-cons-eq, tail-eq-of-cons-eq, nil≢cons}
+use mathlib.Core.List.{List, [], _∷_, map, List·Memᴰ, List·Memᴰ·head, List·Memᴰ·tail, List·Memᴰ·not-nil, List·Memᴰ·cases-cons, List·Memᴰ·append-cases, Memᴰ·append-left, Memᴰ·append-right, Memᴰ·map, Memᴰ·of-map, Memᴰ·cast, head-eq-of-cons-eq, tail-eq-of-cons-eq, nil≢cons}
 use Prim.Native.Nat.{ℕ, _+_, _*_}
 use native.Mathlib.Nat.{zero-mul, suc-mul, add-comm}
 use lib.ListN.{length, length-append, length-map}

@@ -3,18 +3,22 @@
 use mathlib.Core.Path.{_≡_, refl, sym, _∙_, ap, subst}
 use mathlib.Core.Logic.{⊎-elim}
 use mathlib.Core.List.{List, [], _∷_, _++_, List·Memᴰ, List·Memᴰ·not-nil, List·Memᴰ·cases-cons, Memᴰ·cast, Memᴰ·append-left, Memᴰ·append-right}
-use Prim.Native.Nat.{ℕ, zero, suc, _+_, _*_, _-_, _<_, _≤_}
-use native.Mathlib.Nat.{add-comm, zero-mul, suc-mul, mul-le-mul-right, sub-zero, suc-sub-suc}
+use Prim.Native.Nat.{ℕ, zero, suc, _+_, _*_, _<_, _≤_}
+use native.Mathlib.Nat.{add-comm, zero-mul, suc-mul, mul-le-mul-right}
 use native.Mathlib.Omega.{arith}
-use lib.IntN.{ℤ, pos}
+use lib.IntN.{ℤ}
 use lib.ListN.{length, getD, take, drop, length-drop, take-append-drop}
-use lib.Seq.{length-take-le, drop-cons, drop-drop, getD-take, getD-drop}
-use Rattle.rank1.specs.Index.{rowsOf}
+use lib.Seq.{length-take-le, drop-cons, drop-drop}
+use Rattle.rank1.specs.Index.{rowsOf, rowCount}
 use Rattle.rank1.proofs.Distinct.{member-at, Place, place-of}
 
 -- row i fits in where m rows do
 pub row-fits : (d m i l : ℕ) → i < m → m * d ≤ l → i * d + d ≤ l
 row-fits d m i l h f = omega (arith, suc-mul i d, mul-le-mul-right {m = suc i} {n = m} d (omega arith))
+
+-- row t of a run of whole rows lies within it
+pub row-inside : (d t : ℕ) (xs : List ℤ) → t < rowCount d xs → length xs ≡ rowCount d xs * d → (t + 1) * d ≤ length xs
+row-inside d t xs l e = omega (arith, row-fits d (rowCount d xs) t (length xs) l (omega arith))
 
 -- i rows further on, past the first one
 past : (d i : ℕ) (xs : List ℤ) → drop (i * d) (drop d xs) ≡ drop (suc i * d) xs
@@ -36,16 +40,6 @@ row-at d (suc m) xs (suc i) l = row-at d m (drop d xs) i (omega arith) ∙ ap (t
 -- the numbers from place i × d on, d of them
 pub part-length : (d m : ℕ) (xs : List ℤ) (i : ℕ) → i < m → m * d ≤ length xs → length (take d (drop (i * d) xs)) ≡ d
 part-length d m xs i l f = length-take-le d (drop (i * d) xs) (omega (arith, length-drop (i * d) xs, row-fits d m i (length xs) l f))
-
-pub row-length : (d m : ℕ) (xs : List ℤ) (i : ℕ) → i < m → m * d ≤ length xs → length (getD (rowsOf d m xs) i []) ≡ d
-row-length d m xs i l f = ap length (row-at d m xs i l) ∙ part-length d m xs i l f
-
--- component j of row i is the number at place i × d + j
-pub component-at : (d m : ℕ) (xs : List ℤ) (i j : ℕ) → i < m → j < d → getD (getD (rowsOf d m xs) i []) j (pos 0) ≡ getD xs (i * d + j) (pos 0)
-component-at d m xs i j l h =
-    ap (λ (k : List ℤ). getD k j (pos 0)) (row-at d m xs i l)
-    ∙ getD-take d (drop (i * d) xs) j (pos 0) h
-    ∙ getD-drop (i * d) xs j (pos 0)
 
 -- ---- members
 pub row-in : (d m : ℕ) (xs : List ℤ) (i : ℕ) → i < m → List·Memᴰ (take d (drop (i * d) xs)) (rowsOf d m xs)
@@ -87,14 +81,6 @@ pub rows-take : (d m : ℕ) (xs : List ℤ) (i : ℕ) → i ≤ m → take i (ro
 rows-take d m xs zero l = refl
 rows-take d zero xs (suc i) l = absurd (omega arith)
 rows-take d (suc m) xs (suc i) l = ap (λ (ks : List (List ℤ)). take d xs ∷ ks) (rows-take d m (drop d xs) i (omega arith))
-
-pub rows-drop : (d m : ℕ) (xs : List ℤ) (i : ℕ) → i ≤ m → drop i (rowsOf d m xs) ≡ rowsOf d (m - i) (drop (i * d) xs)
-rows-drop d m xs zero l = ap (rowsOf d m) (sym (none-past d xs)) ∙ ap (λ (k : ℕ). rowsOf d k (drop (0 * d) xs)) (sym (sub-zero m))
-rows-drop d zero xs (suc i) l = absurd (omega arith)
-rows-drop d (suc m) xs (suc i) l =
-    rows-drop d m (drop d xs) i (omega arith)
-    ∙ ap (rowsOf d (m - i)) (past d i xs)
-    ∙ ap (λ (k : ℕ). rowsOf d k (drop (suc i * d) xs)) (sym (suc-sub-suc m i))
 
 -- row i is the next one of those from place i on
 pub rows-drop-cons : (d m : ℕ) (xs : List ℤ) (i : ℕ) → i < m → drop i (rowsOf d m xs) ≡ take d (drop (i * d) xs) ∷ drop (suc i) (rowsOf d m xs)

@@ -3,14 +3,14 @@
 -- of the rows; rows without negative components that share a mirror are equal.
 use mathlib.Core.Path.{_≡_, refl, sym, _∙_, ap, subst}
 use mathlib.Core.Logic.{_↔_, _≢_, _⊎_, inl, inr, ⊎-elim}
-use mathlib.Core.List.{List, [], _∷_, _++_, map, List·Memᴰ, List·Memᴰ·head, List·Memᴰ·tail, List·Memᴰ·not-nil, List·Memᴰ·cases-cons, List·Memᴰ·append-cases, List·Memᴰ·eq-of-singleton, Memᴰ·append-left, Memᴰ·append-right, Memᴰ·cast, cons≢nil, nil≢cons, head-eq-of-cons-eq, tail-eq-of-cons-eq}
+use mathlib.Core.List.{List, [], _∷_, map, List·Memᴰ, List·Memᴰ·head, List·Memᴰ·tail, List·Memᴰ·not-nil, List·Memᴰ·cases-cons, List·Memᴰ·append-cases, List·Memᴰ·eq-of-singleton, Memᴰ·append-left, Memᴰ·append-right, Memᴰ·cast, cons≢nil, nil≢cons, head-eq-of-cons-eq, tail-eq-of-cons-eq}
 use Prim.Native.Nat.{ℕ, zero, suc, _*_, _^_, _<_}
 use native.Mathlib.Nat.{one-mul, pow-succ', suc-inj, suc-ne-zero}
 use native.Mathlib.Omega.{arith}
 use lib.IntN.{ℤ, pos, negsuc, natAbs, pos-ne-negsuc}
 use lib.ListN.{length, getD, length-map, List·getD-map}
 use lib.Pow.{pow-pos}
-use Rattle.rank1.specs.Index.{signs, headed, mirrors, mirrored}
+use Rattle.rank1.specs.Index.{signs, headed, mirrors, nonzeros, mirrored}
 use Rattle.rank1.specs.Valid.{Distinct, Nonnegative}
 use Rattle.rank1.proofs.Distinct.{distinct-append}
 use Rattle.rank1.proofs.Headed.{headed-in, headed-nil, headed-out, headed-length, headed-distinct}
@@ -78,13 +78,6 @@ first-headed (pos (suc a)) k (s ∷ ss) l e = ap (λ (t : List ℤ). pos (suc a)
 first-headed (negsuc a) k (s ∷ ss) l e = ap (λ (t : List ℤ). negsuc a ∷ t) e
 
 -- ---- how many they are
--- the number of components other than 0
-abbrev pub nonzeros : List ℤ → ℕ
-nonzeros [] = 0
-nonzeros (pos zero ∷ k) = nonzeros k
-nonzeros (pos (suc a) ∷ k) = suc (nonzeros k)
-nonzeros (negsuc a ∷ k) = suc (nonzeros k)
-
 pub mirrors-length : (k : List ℤ) → length (mirrors k) ≡ 2 ^ nonzeros k
 mirrors-length [] = refl
 mirrors-length (x ∷ k) =

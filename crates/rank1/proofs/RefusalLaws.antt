@@ -32,9 +32,6 @@ firstOf-none-append xs ys =
     ((λ e. r .0 (sym (firstOf-append xs ys) ∙ e)), (λ p. firstOf-append xs ys ∙ r .1 p))
 
 -- ---- a condition with its number
-pub refuse-applies : (number : ℕ) (b : Bool) → b ≡ true → refuse number b ≡ number
-refuse-applies number b e = ap (refuse number) e
-
 pub refuse-none : (number : ℕ) (b : Bool) → 0 < number → (refuse number b ≡ 0) ↔ (b ≡ false)
 refuse-none number true l = ((λ e. absurd (omega arith)), (λ e. absurd (false-fails true e tt)))
 refuse-none number false l = ((λ e. refl), (λ e. refl))

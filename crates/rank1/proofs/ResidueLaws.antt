@@ -3,13 +3,13 @@ use mathlib.Core.Path.{_≡_, refl, sym, _∙_, ap, subst}
 use mathlib.Core.Logic.{_↔_}
 use mathlib.Core.Bool.{Bool, true, false, not, cond}
 use Prim.Native.Nat.{ℕ, zero, suc, _+_, _*_, _-_, _/_, _%_, _<_, _≤_}
-use native.Mathlib.Nat.{add-assoc, add-comm, add-zero, zero-add, zero-mul, mul-zero, mul-one, one-mul, add-mul, mul-add-mod-self-left, add-mul-mod-self-left, mod-add-mod, add-mod-mod, add-mod, mod-lt, mod-mod, mod-self, mod-eq-of-lt, div-add-mod, mod-add-div', zero-mod, suc-mul}
+use native.Mathlib.Nat.{add-zero, zero-add, zero-mul, mul-zero, one-mul, add-mul, add-mul-mod-self-left, mod-add-mod, add-mod-mod, add-mod, mod-lt, mod-mod, mod-self, mod-eq-of-lt, div-add-mod, mod-add-div', zero-mod, suc-mul}
 use native.Mathlib.Omega.{arith}
 use lib.Dec.{T, ltb, ltb→lt, nltb→le}
-use lib.IntN.{ℤ, pos, negsuc, sucℤ, predℤ, negℤ, _+ℤ_, _-ℤ_, _*ℤ_, +ℤ-idl, +ℤ-idr, +ℤ-one, +ℤ-assoc, +ℤ-comm, +ℤ-invl, +ℤ-invr, negℤ-+ℤ, zero-*ℤ, sucℤ-*ℤ, suc-pred, -ℤ-+ℤ-cancel}
+use lib.IntN.{ℤ, pos, negsuc, sucℤ, predℤ, negℤ, _+ℤ_, _-ℤ_, _*ℤ_, +ℤ-idr, +ℤ-one, +ℤ-invr, zero-*ℤ, sucℤ-*ℤ, suc-pred, -ℤ-+ℤ-cancel}
 use Rattle.rank1.specs.Residue.{residue}
 use Rattle.rank1.proofs.Whole as W
-use Rattle.rank1.proofs.Modulo.{mod-mul-left, mod-mul-right, cancel}
+use Rattle.rank1.proofs.Modulo.{mod-mul-left, cancel}
 
 pub residue-lt : (n : ℕ) (x : ℤ) → 0 < n → residue n x < n
 residue-lt n (pos a) h = mod-lt a h

@@ -3,17 +3,18 @@
 -- change of the axes on which all rows are 0.
 use mathlib.Core.Path.{_≡_, refl, sym, _∙_, ap, subst}
 use mathlib.Core.Logic.{_↔_, _≢_}
-use mathlib.Core.List.{List, [], _∷_, List·Memᴰ}
-use Prim.Native.Nat.{ℕ, zero, suc, _%_, _<_, _≤_}
+use mathlib.Core.List.{List, [], _∷_, map, List·Memᴰ}
+use Prim.Native.Nat.{ℕ, zero, suc, _%_, _<_}
 use native.Mathlib.Nat.{zero-mod}
 use native.Mathlib.Omega.{arith}
-use lib.IntN.{ℤ, pos, natAbs, _+ℤ_, _*ℤ_, zero-*ℤ}
-use lib.ListN.{length, getD}
+use lib.IntN.{ℤ, pos, natAbs, _+ℤ_, _*ℤ_, zero-*ℤ, +ℤ-idl}
+use lib.ListN.{length, getD, take}
 use Rattle.rank1.specs.Residue.{residue, dot, residueAt}
 use Rattle.rank1.proofs.DotLaws.{reduced, scaled, dot-reduced, scaled-equal}
 use Rattle.rank1.specs.Index.{zeroRow, mirrors, mirrored}
 use Rattle.rank1.proofs.MirrorLaws.{abs-zero, sizes-at, mirror-sizes, mirror-self, mirrored-in, mirrored-out}
-use Rattle.rank1.specs.Rule.{Integrates, Reconstructs, PlanA, PlanB, PlanC, Admissible}
+use Rattle.rank1.specs.Rule.{Integrates, Reconstructs, PlanA, PlanB, PlanC, Rule, Admissible}
+use Rattle.rank1.specs.Axes.{ZeroFrom}
 
 -- ---- the pairs of rows that a plan keeps apart; the empty row stands for residue 0; a plan above 4 asks what cannot be
 abbrev pub Apart : ℕ → List (List ℤ) → List ℤ → List ℤ → Type 0
@@ -29,7 +30,7 @@ module _ (ks : List (List ℤ)) (n : ℕ) (z : List ℤ) where
   abbrev pub Separates : ℕ → Type 0
   Separates plan = (s t : List ℤ) → Apart plan ks s t → residueAt n z s ≢ residueAt n z t
 
-  separates : (plan : ℕ) → Admissible ks n z plan → Separates plan
+  separates : (plan : ℕ) → Admissible plan ks n z → Separates plan
   unfolding Integrates Reconstructs PlanA PlanB PlanC
   separates zero r s t p = λ e. r s (p .0) (p .1) (e ∙ ap (residueAt n z) (p .2) ∙ zero-mod n)
   separates (suc zero) r s t p = r s t (p .0) (p .1) (p .2)
@@ -38,7 +39,7 @@ module _ (ks : List (List ℤ)) (n : ℕ) (z : List ℤ) where
   separates (suc (suc (suc (suc zero)))) r s t p = r t (p .0) s (p .1) (p .2) (p .3) (p .4)
   separates (suc (suc (suc (suc (suc q))))) r s t p = absurd r
 
-  admits : (plan : ℕ) → Separates plan → Admissible ks n z plan
+  admits : (plan : ℕ) → Separates plan → Admissible plan ks n z
   unfolding Integrates Reconstructs PlanA PlanB PlanC
   admits zero r = λ k m d e. r k [] (m, d, refl) (e ∙ sym (zero-mod n))
   admits (suc zero) r = λ k k′ m m′ d. r k k′ (m, m′, d)
@@ -47,7 +48,7 @@ module _ (ks : List (List ℤ)) (n : ℕ) (z : List ℤ) where
   admits (suc (suc (suc (suc zero)))) r = λ k k′ s m m′ d i. r s k (k′, m, m′, d, i)
   admits (suc (suc (suc (suc (suc q))))) r = r [] [] (refl, refl) refl
 
-  pub one-rule : (plan : ℕ) → Admissible ks n z plan ↔ Separates plan
+  pub one-rule : (plan : ℕ) → Admissible plan ks n z ↔ Separates plan
   one-rule plan = (separates plan, admits plan)
 
 -- ---- a part of the list
@@ -67,31 +68,31 @@ apart-within (suc (suc (suc (suc zero)))) ks′ ks s t w p = (p .0, w t (p .1), 
 apart-within (suc (suc (suc (suc (suc q))))) ks′ ks s t w p = p
 
 -- ---- the rule is carried over: to another list, another modulus, another vector
-pub transfer : (plan : ℕ) (ks ks′ : List (List ℤ)) (n n′ : ℕ) (z z′ : List ℤ) → Within ks′ ks → ((s t : List ℤ) → Apart plan ks′ s t → residueAt n′ z′ s ≡ residueAt n′ z′ t → residueAt n z s ≡ residueAt n z t) → Admissible ks n z plan → Admissible ks′ n′ z′ plan
+pub transfer : (plan : ℕ) (ks ks′ : List (List ℤ)) (n n′ : ℕ) (z z′ : List ℤ) → Within ks′ ks → ((s t : List ℤ) → Apart plan ks′ s t → residueAt n′ z′ s ≡ residueAt n′ z′ t → residueAt n z s ≡ residueAt n z t) → Admissible plan ks n z → Admissible plan ks′ n′ z′
 transfer plan ks ks′ n n′ z z′ w f r =
     admits ks′ n′ z′ plan (λ s t p e. separates ks n z plan r s t (apart-within plan ks′ ks s t w p) (f s t p e))
 
 -- every rule passes to a part of the list
-pub part : (plan : ℕ) (ks ks′ : List (List ℤ)) (n : ℕ) (z : List ℤ) → Within ks′ ks → Admissible ks n z plan → Admissible ks′ n z plan
+pub part : (plan : ℕ) (ks ks′ : List (List ℤ)) (n : ℕ) (z : List ℤ) → Within ks′ ks → Admissible plan ks n z → Admissible plan ks′ n z
 part plan ks ks′ n z w = transfer plan ks ks′ n n z z w (λ s t p e. e)
 
 -- two vectors with which the same pairs have equal residues
-pub alike : (plan : ℕ) (ks : List (List ℤ)) (n : ℕ) (z z′ : List ℤ) → ((s t : List ℤ) → Apart plan ks s t → (residueAt n z s ≡ residueAt n z t) ↔ (residueAt n z′ s ≡ residueAt n z′ t)) → Admissible ks n z plan ↔ Admissible ks n z′ plan
+pub alike : (plan : ℕ) (ks : List (List ℤ)) (n : ℕ) (z z′ : List ℤ) → ((s t : List ℤ) → Apart plan ks s t → (residueAt n z s ≡ residueAt n z t) ↔ (residueAt n z′ s ≡ residueAt n z′ t)) → Admissible plan ks n z ↔ Admissible plan ks n z′
 alike plan ks n z z′ f = (
   transfer plan ks ks n n z z′ (λ k m. m) (λ s t p. f s t p .1),
   transfer plan ks ks n n z′ z (λ k m. m) (λ s t p. f s t p .0),
 )
 
 -- two vectors with which the rows of those pairs have one residue
-pub same-residues : (plan : ℕ) (ks : List (List ℤ)) (n : ℕ) (z z′ : List ℤ) → ((s t : List ℤ) → Apart plan ks s t → (residueAt n z s ≡ residueAt n z′ s) × (residueAt n z t ≡ residueAt n z′ t)) → Admissible ks n z plan ↔ Admissible ks n z′ plan
+pub same-residues : (plan : ℕ) (ks : List (List ℤ)) (n : ℕ) (z z′ : List ℤ) → ((s t : List ℤ) → Apart plan ks s t → (residueAt n z s ≡ residueAt n z′ s) × (residueAt n z t ≡ residueAt n z′ t)) → Admissible plan ks n z ↔ Admissible plan ks n z′
 same-residues plan ks n z z′ f = alike plan ks n z z′ (λ s t p. let q = f s t p in ((λ e. sym (q .0) ∙ e ∙ q .1), (λ e. q .0 ∙ e ∙ sym (q .1))))
 
 -- only the residues of z matter
-pub reduction : (plan : ℕ) (ks : List (List ℤ)) (n : ℕ) (z : List ℤ) → 0 < n → Admissible ks n z plan ↔ Admissible ks n (reduced n z) plan
+pub reduction : (plan : ℕ) (ks : List (List ℤ)) (n : ℕ) (z : List ℤ) → 0 < n → Admissible plan ks n z ↔ Admissible plan ks n (reduced n z)
 reduction plan ks n z l = same-residues plan ks n z (reduced n z) (λ s t p. (dot-reduced n s z l, dot-reduced n t z l))
 
 -- a multiple of z by a u with an inverse v
-pub scaling : (plan : ℕ) (ks : List (List ℤ)) (n : ℕ) (z : List ℤ) (u v : ℤ) → 0 < n → residue n (u *ℤ v) ≡ 1 % n → Admissible ks n z plan ↔ Admissible ks n (scaled u z) plan
+pub scaling : (plan : ℕ) (ks : List (List ℤ)) (n : ℕ) (z : List ℤ) (u v : ℤ) → 0 < n → residue n (u *ℤ v) ≡ 1 % n → Admissible plan ks n z ↔ Admissible plan ks n (scaled u z)
 scaling plan ks n z u v l i = alike plan ks n z (scaled u z) (λ s t p. scaled-equal n u v s t z l i)
 
 -- ---- what holds of all mirrors of the rows and of the empty row holds of the rows that a plan keeps apart
@@ -112,42 +113,41 @@ apart-rows Q plan ks all none s t = go plan
     go (suc (suc (suc (suc zero)))) p = (all (p .0) s (p .2) (p .4), row t (p .1))
     go (suc (suc (suc (suc (suc q))))) p = (subst Q (sym (p .0)) none, subst Q (sym (p .1)) none)
 
--- ---- rows that are 0 from an axis on
-abbrev pub ZeroFrom : ℕ → List ℤ → Type 0
-ZeroFrom j k = (i : ℕ) → j ≤ i → getD k i (pos 0) ≡ pos 0
-
--- two vectors are the same below an axis
-abbrev pub Agree : ℕ → List ℤ → List ℤ → Type 0
-Agree j z z′ = (i : ℕ) → i < j → getD z i (pos 0) ≡ getD z′ i (pos 0)
-
+-- ---- rows that are 0 from an axis on: what z has from there on does not count
 pub mirror-zero : (j : ℕ) (k s : List ℤ) → ZeroFrom j k → List·Memᴰ s (mirrors k) → ZeroFrom j s
 mirror-zero j k s f m i l = abs-zero (getD s i (pos 0)) (sizes-at s k (mirror-sizes k s m) i ∙ ap natAbs (f i l))
 
--- one more axis: the products are the same, and so are the sums
-dot-step : (x a b : ℤ) (h z z′ : List ℤ) → x *ℤ a ≡ x *ℤ b → dot h z ≡ dot h z′ → dot (x ∷ h) (a ∷ z) ≡ dot (x ∷ h) (b ∷ z′)
-dot-step x a b h z z′ p q = ap (λ (k : ℤ). k +ℤ dot h z) p ∙ ap (λ (k : ℤ). x *ℤ b +ℤ k) q
+-- 0 from the start on: nothing is left of the sum
+dot-nothing : (h z : List ℤ) → ZeroFrom 0 h → dot h z ≡ pos 0
+dot-nothing [] z f = refl
+dot-nothing (x ∷ h) [] f = refl
+dot-nothing (x ∷ h) (y ∷ z) f =
+    ap (λ (a : ℤ). a *ℤ y +ℤ dot h z) (f 0 (omega arith))
+    ∙ ap (λ (a : ℤ). a +ℤ dot h z) (zero-*ℤ y)
+    ∙ +ℤ-idl (dot h z)
+    ∙ dot-nothing h z (λ i l. f (suc i) (omega arith))
 
-pub dot-prefix : (j : ℕ) (h z z′ : List ℤ) → ZeroFrom j h → length z ≡ length z′ → Agree j z z′ → dot h z ≡ dot h z′
-dot-prefix j [] z z′ f l g = refl
-dot-prefix j (x ∷ h) [] [] f l g = refl
-dot-prefix j (x ∷ h) [] (b ∷ z′) f l g = absurd (omega arith)
-dot-prefix j (x ∷ h) (a ∷ z) [] f l g = absurd (omega arith)
-dot-prefix zero (x ∷ h) (a ∷ z) (b ∷ z′) f l g =
-    dot-step x a b h z z′ (nought a ∙ sym (nought b)) (dot-prefix zero h z z′ (λ i m. f (suc i) (omega arith)) (omega arith) (λ i m. absurd (omega arith)))
-  where
-    nought : (c : ℤ) → x *ℤ c ≡ pos 0
-    nought c = ap (λ (y : ℤ). y *ℤ c) (f 0 (omega arith)) ∙ zero-*ℤ c
-dot-prefix (suc j) (x ∷ h) (a ∷ z) (b ∷ z′) f l g =
-    dot-step x a b h z z′ (ap (λ (c : ℤ). x *ℤ c) (g 0 (omega arith))) (dot-prefix j h z z′ (λ i m. f (suc i) (omega arith)) (omega arith) (λ i m. g (suc i) (omega arith)))
+dot-take : (j : ℕ) (h : List ℤ) (z : List ℕ) → ZeroFrom j h → dot h (map pos (take j z)) ≡ dot h (map pos z)
+dot-take zero h z f = dot-nothing h [] f ∙ sym (dot-nothing h (map pos z) f)
+dot-take (suc j) h [] f = refl
+dot-take (suc j) [] (a ∷ z) f = refl
+dot-take (suc j) (x ∷ h) (a ∷ z) f = ap (λ (k : ℤ). x *ℤ pos a +ℤ k) (dot-take j h z (λ i l. f (suc i) (omega arith)))
 
 -- where every row is 0 from axis j on, only the first j components of z matter
-pub prefix : (plan : ℕ) (ks : List (List ℤ)) (n j : ℕ) (z z′ : List ℤ) → ((k : List ℤ) → List·Memᴰ k ks → ZeroFrom j k) → length z ≡ length z′ → Agree j z z′ → Admissible ks n z plan ↔ Admissible ks n z′ plan
-prefix plan ks n j z z′ f l g =
-    same-residues plan ks n z z′
-    (apart-rows (λ s. residueAt n z s ≡ residueAt n z′ s) plan ks
-    (λ k s m i. ap (residue n) (dot-prefix j s z z′ (mirror-zero j k s (f k m) i) l g))
+pub prefix : (plan : ℕ) (ks : List (List ℤ)) (n j : ℕ) (z : List ℕ) → ((k : List ℤ) → List·Memᴰ k ks → ZeroFrom j k) → Admissible plan ks n (map pos (take j z)) ↔ Admissible plan ks n (map pos z)
+prefix plan ks n j z f =
+    same-residues plan ks n (map pos (take j z)) (map pos z)
+    (apart-rows (λ s. residueAt n (map pos (take j z)) s ≡ residueAt n (map pos z) s) plan ks
+    (λ k s m i. ap (residue n) (dot-take j s z (mirror-zero j k s (f k m) i)))
     refl)
 
--- what a search may prune by: where the rows that are 0 from axis j on fail, no vector with the same first j components does
-pub prune : (plan : ℕ) (ks ks′ : List (List ℤ)) (n j : ℕ) (z z′ : List ℤ) → Within ks′ ks → ((k : List ℤ) → List·Memᴰ k ks′ → ZeroFrom j k) → length z ≡ length z′ → Agree j z z′ → (Admissible ks′ n z plan → ⊥) → Admissible ks n z′ plan → ⊥
-prune plan ks ks′ n j z z′ w f l g h r = h (prefix plan ks′ n j z z′ f l g .1 (part plan ks ks′ n z′ w r))
+-- what a search may prune by: where the rows that are 0 from axis j on fail with the first j components, no vector that begins so is admissible
+pub prune : (plan : ℕ) (ks ks′ : List (List ℤ)) (n j : ℕ) (z : List ℕ) → Within ks′ ks → ((k : List ℤ) → List·Memᴰ k ks′ → ZeroFrom j k) → (Admissible plan ks′ n (map pos (take j z)) → ⊥) → Admissible plan ks n (map pos z) → ⊥
+prune plan ks ks′ n j z w f h r = h (prefix plan ks′ n j z f .1 (part plan ks ks′ n (map pos z) w r))
+
+-- ---- what the laws of the search ask of a rule: that it passes to the residues of z
+abbrev pub Reduces : Rule → Type 0
+Reduces rule = (n : ℕ) (z : List ℤ) → 0 < n → rule n z → rule n (reduced n z)
+
+pub plan-reduces : (plan : ℕ) (ks : List (List ℤ)) → Reduces (Admissible plan ks)
+plan-reduces plan ks n z l = reduction plan ks n z l .0

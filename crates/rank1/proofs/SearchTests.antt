@@ -2,7 +2,7 @@
 -- plan, and that there is none. Each tries every vector in range, and where it holds, the definition does, for all inputs. Only
 -- the trial tickets rest on these.
 use mathlib.Core.Path.{refl, subst}
-use mathlib.Core.Logic.{⊎-elim}
+use mathlib.Core.Logic.{_↔_, ⊎-elim}
 use mathlib.Core.Bool.{Bool, true, false, not, _&&_, _||_}
 use mathlib.Core.List.{List, [], _∷_, map, List·Memᴰ, List·Memᴰ·head, List·Memᴰ·tail}
 use Prim.Native.Nat.{ℕ, zero, suc, _+_, _<_, _≤_}
@@ -11,11 +11,13 @@ use lib.Dec.{T, eqb, ltb, leb, eqb→eq, eqb-refl, lt→ltb, leb→le, T-not}
 use lib.IntN.{ℤ, pos}
 use Rattle.rank1.specs.Tests.{every, upFrom, upTo}
 use Rattle.rank1.specs.Index.{headed}
+use Rattle.rank1.specs.Rule.{Rule, Admissible}
 use Rattle.rank1.specs.RuleTest.{admissible}
 use Rattle.rank1.specs.Search.{Before, InRange, Hopeless, First, Smallest, NoPlan}
 use Rattle.rank1.specs.Refusal.{badVector}
 use Rattle.rank1.proofs.Order.{compared}
 use Rattle.rank1.proofs.Headed.{headed-in}
+use Rattle.rank1.proofs.RuleLaws.{Reduces, plan-reduces}
 use Rattle.rank1.proofs.SearchLaws.{first-of, hopeless-ranged}
 use Rattle.rank1.proofs.TestLaws.{both, joined, decides-not, every-at}
 use Rattle.rank1.proofs.RuleTestLaws.{decides-rule}
@@ -68,28 +70,42 @@ before-precedes (a ∷ y) (c ∷ z) b =
     (λ p. right-holds (ltb a c) (eqb a c && precedes y z) (joined (eqb a c) (precedes y z) (subst (λ (x : ℕ). T (eqb a x)) (p .0) (eqb-refl a)) (before-precedes y z (p .1))))
     b
 
+-- ---- a rule with a test that decides it
+pub record Tested (rule : Rule) : Type 0 where
+  pub reduces : Reduces rule
+  pub test : ℕ → List ℕ → Bool
+  pub decides : (n : ℕ) (z : List ℕ) → T (test n z) ↔ rule n (map pos z)
+
+-- the rules of the five plans
+abbrev pub planTested : (plan : ℕ) (ks : List (List ℤ)) → Tested (Admissible plan ks)
+planTested plan ks = record {
+  reduces = plan-reduces plan ks;
+  test = λ n z. admissible plan ks n (map pos z);
+  decides = λ n z. decides-rule ks n (map pos z) plan;
+}
+
 -- ---- the searches
-module _ (plan d : ℕ) (ks : List (List ℤ)) where
+module _ {rule : Rule} (tested : Tested rule) (d : ℕ) where
   abbrev passes : ℕ → List ℕ → Bool
-  passes n z = admissible ks n (map pos z) plan
+  passes = tested .test
 
   -- no vector in range passes
   abbrev pub hopelessTest : ℕ → Bool
   hopelessTest n = every (λ y. not (passes n y)) (vectors n d)
 
-  pub hopeless-holds : (n : ℕ) → 0 < n → T (hopelessTest n) → Hopeless plan d ks n
+  pub hopeless-holds : (n : ℕ) → 0 < n → T (hopelessTest n) → Hopeless rule d n
   hopeless-holds n l t =
-      hopeless-ranged plan d ks n l
-      (λ y r. decides-not (passes n y) (decides-rule ks n (map pos y) plan) .0 (every-at (λ x. not (passes n x)) (vectors n d) t y (vectors-in n d y r)))
+      hopeless-ranged rule d n (tested .reduces) l
+      (λ y r. decides-not (passes n y) (tested .decides n y) .0 (every-at (λ x. not (passes n x)) (vectors n d) t y (vectors-in n d y r)))
 
   -- every modulus from 1 to below the bound is hopeless
   abbrev pub noneBelow : ℕ → Bool
   noneBelow c = every hopelessTest (upTo c)
 
-  none-holds : (c : ℕ) → T (noneBelow c) → (m : ℕ) → 1 ≤ m → m < c → Hopeless plan d ks m
+  none-holds : (c : ℕ) → T (noneBelow c) → (m : ℕ) → 1 ≤ m → m < c → Hopeless rule d m
   none-holds c t m l h = hopeless-holds m l (every-at hopelessTest (upTo c) t m (upTo-in c m h))
 
-  pub no-plan-holds : (c : ℕ) → T (noneBelow (suc c)) → NoPlan plan d ks c
+  pub no-plan-holds : (c : ℕ) → T (noneBelow (suc c)) → NoPlan rule d c
   unfolding NoPlan
   no-plan-holds c t = λ n l h. none-holds (suc c) t n l (omega arith)
 
@@ -100,22 +116,22 @@ module _ (plan d : ℕ) (ks : List (List ℤ)) where
   abbrev pub firstTest : ℕ → List ℕ → Bool
   firstTest n z = eqb (badVector d n z) 0 && (passes n z && every (later n z) (vectors n d))
 
-  pub first-holds : (n : ℕ) (z : List ℕ) → T (firstTest n z) → First plan d ks n z
+  pub first-holds : (n : ℕ) (z : List ℕ) → T (firstTest n z) → First rule d n z
   first-holds n z t =
       let u = both (eqb (badVector d n z) 0) (passes n z && every (later n z) (vectors n d)) t in
       let v = both (passes n z) (every (later n z) (vectors n d)) (u .1) in
-      first-of plan d ks n z
+      first-of rule d n z
       (valid-vector d n z .0 (eqb→eq (badVector d n z) 0 (u .0)))
-      (decides-rule ks n (map pos z) plan .0 (v .0))
+      (tested .decides n z .0 (v .0))
       (λ y r a b. T-not (passes n y && precedes y z) (every-at (later n z) (vectors n d) (v .1) y (vectors-in n d y r))
-      (joined (passes n y) (precedes y z) (decides-rule ks n (map pos y) plan .1 a) (before-precedes y z b)))
+      (joined (passes n y) (precedes y z) (tested .decides n y .1 a) (before-precedes y z b)))
 
   -- z is first at n, and every smaller modulus is hopeless
   abbrev pub smallestTest : ℕ → List ℕ → Bool
   smallestTest n z = leb 1 n && (firstTest n z && noneBelow n)
 
   -- for every ceiling that lets n in
-  pub smallest-holds : (n : ℕ) (z : List ℕ) → T (smallestTest n z) → (ceiling : ℕ) → n ≤ ceiling → Smallest plan d ks ceiling n z
+  pub smallest-holds : (n : ℕ) (z : List ℕ) → T (smallestTest n z) → (ceiling : ℕ) → n ≤ ceiling → Smallest rule d ceiling n z
   smallest-holds n z t ceiling h =
       let u = both (leb 1 n) (firstTest n z && noneBelow n) t in
       let v = both (firstTest n z) (noneBelow n) (u .1) in

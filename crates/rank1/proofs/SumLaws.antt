@@ -1,4 +1,5 @@
--- Spreading: S(k) under a plan and its count c, the total of the sums, a sum row by row, and how large a sum is.
+-- Map and spreading: S(k) under a plan and its count c, the places of the map, the total of the sums, a sum row by row, and how
+-- large a sum is.
 use mathlib.Core.Path.{_≡_, refl, sym, _∙_, ap, subst}
 use mathlib.Core.Logic.{_≢_}
 use mathlib.Core.Bool.{Bool, true, false, cond}
@@ -14,10 +15,10 @@ use lib.ListN.{length, getD, take}
 use lib.Seq.{length-take-le}
 use Rattle.rank1.specs.Tests.{count, upTo}
 use Rattle.rank1.specs.Residue.{dot, residueAt}
-use Rattle.rank1.specs.Index.{mirrors}
-use Rattle.rank1.specs.Sums.{mirrorsUnder, copiesAt, copies, sumAt, spreadSums}
+use Rattle.rank1.specs.Index.{mirrors, nonzeros}
+use Rattle.rank1.specs.Sums.{mirrorsUnder, copiesAt, copies, residueMap, sumAt, spreadSums}
 use Rattle.rank1.proofs.ResidueLaws.{residue-lt}
-use Rattle.rank1.proofs.MirrorLaws.{mirror-self, nonzeros, mirrors-length}
+use Rattle.rank1.proofs.MirrorLaws.{mirror-self, mirrors-length}
 use Rattle.rank1.proofs.CountLaws.{count-le, count-none, count-some, member-take}
 use Rattle.rank1.proofs.WholeSums.{total, total-none, total-add, total-mul, oneAt, total-oneAt, abs-add, abs-mul}
 
@@ -75,6 +76,32 @@ module _ (plan n : ℕ) (z : List ℤ) where
   pub copiesAt-none : (r : ℕ) (k : List ℤ) → ((s : List ℤ) → List·Memᴰ s (mirrorsUnder plan k) → residueAt n z s ≢ r) → copiesAt plan n z r k ≡ 0
   copiesAt-none r k h =
       count-none (λ s. eqb (residueAt n z s) r) (mirrorsUnder plan k) (λ s m. ne-eqb (residueAt n z s) r (h s m))
+
+  -- ---- the map
+  -- two numbers for each row
+  pub map-length : (ks : List (List ℤ)) → length (residueMap plan n z ks) ≡ 2 * length ks
+  map-length [] = refl
+  map-length (k ∷ ks) = omega (arith, map-length ks)
+
+  -- the residue of row i
+  pub map-residue : (ks : List (List ℤ)) (i : ℕ) → i < length ks → getD (residueMap plan n z ks) (2 * i) 0 ≡ residueAt n z (getD ks i [])
+  map-residue [] i l = absurd (omega arith)
+  map-residue (k ∷ ks) zero l = refl
+  map-residue (k ∷ ks) (suc i) l =
+      ap (λ (j : ℕ). getD (residueMap plan n z (k ∷ ks)) j 0) double ∙ map-residue ks i (omega arith)
+    where
+      double : 2 * suc i ≡ suc (suc (2 * i))
+      double = omega arith
+
+  -- its c
+  pub map-copies : (ks : List (List ℤ)) (i : ℕ) → i < length ks → getD (residueMap plan n z ks) (2 * i + 1) 0 ≡ copies plan n z (getD ks i [])
+  map-copies [] i l = absurd (omega arith)
+  map-copies (k ∷ ks) zero l = refl
+  map-copies (k ∷ ks) (suc i) l =
+      ap (λ (j : ℕ). getD (residueMap plan n z (k ∷ ks)) j 0) double ∙ map-copies ks i (omega arith)
+    where
+      double : 2 * suc i + 1 ≡ suc (suc (2 * i + 1))
+      double = omega arith
 
   -- ---- the total of the sums
   -- over all residues each row of a list is counted once

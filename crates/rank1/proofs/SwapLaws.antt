@@ -1,9 +1,8 @@
 -- Two axes exchanged. Where the list stays itself when axes i < j change places, a vector with its components i and j
 -- exchanged is admissible with it; so in the first vector component i is at most component j. And a test for such axes.
 use mathlib.Core.Path.{_≡_, refl, sym, _∙_, ap, ap₂, subst}
-use mathlib.Core.Logic.{_↔_, _≢_}
-use mathlib.Core.Bool.{Bool, true, false, _||_}
-use mathlib.Core.List.{List, [], _∷_, map, List·Memᴰ, List·Memᴰ·head, List·Memᴰ·tail}
+use mathlib.Core.Logic.{_≢_}
+use mathlib.Core.List.{List, [], _∷_, map, List·Memᴰ}
 use Prim.Native.Nat.{ℕ, zero, suc, _<_, _≤_}
 use native.Mathlib.Nat.{suc-inj, mod-eq-of-lt}
 use native.Mathlib.Decide.{ℕ-discrete, decLe}
@@ -11,25 +10,17 @@ use native.Mathlib.Omega.{arith}
 use lib.IntN.{ℤ, pos, natAbs, _+ℤ_, _*ℤ_, +ℤ-assoc, +ℤ-comm}
 use lib.ListN.{length, length-map, length-set, getD, set, replicate, List·getD-map}
 use lib.Seq.{getD-set-same, getD-set-other, set-set, set-getD, ext-getD}
-use Rattle.rank1.specs.Tests.{every, any, sameRow}
 use Rattle.rank1.specs.Residue.{residue, dot}
 use Rattle.rank1.specs.Index.{zeroRow}
-use Rattle.rank1.specs.Rule.{Admissible}
+use Rattle.rank1.specs.Rule.{Rule, Admissible}
 use Rattle.rank1.specs.Search.{First}
+use Rattle.rank1.specs.Axes.{swap, Interchangeable}
+use Rattle.rank1.proofs.RuleLaws.{Reduces}
 use Rattle.rank1.proofs.MirrorLaws.{same-length, mirror-sizes}
-use Rattle.rank1.proofs.TestLaws.{every-true, true-every, true-any, true-holds, row-true}
 use Rattle.rank1.proofs.SymmetryLaws.{Symmetry, symmetric, none-lower}
 
 -- ---- components i and j exchanged
 module _ {A : Type 0} where
-  -- where the list has not both, it stays
-  abbrev pub swap : ℕ → ℕ → List A → List A
-  swap i j [] = []
-  swap zero zero (x ∷ xs) = x ∷ xs
-  swap zero (suc j) (x ∷ xs) = getD xs j x ∷ set xs j x
-  swap (suc i) zero (x ∷ xs) = getD xs i x ∷ set xs i x
-  swap (suc i) (suc j) (x ∷ xs) = x ∷ swap i j xs
-
   -- the length stays
   pub length-swap : (i j : ℕ) (xs : List A) → length (swap i j xs) ≡ length xs
   length-swap i j [] = refl
@@ -179,37 +170,7 @@ dot-swap zero (suc j) (a ∷ h) (b ∷ z) e = dot-front j a b h z (suc-inj e)
 dot-swap (suc i) zero (a ∷ h) (b ∷ z) e = dot-front i a b h z (suc-inj e)
 dot-swap (suc i) (suc j) (a ∷ h) (b ∷ z) e = ap (λ (k : ℤ). a *ℤ b +ℤ k) (dot-swap i j h z (suc-inj e))
 
--- ---- interchangeable axes: the list stays itself when they change places
-abbrev pub Interchangeable : ℕ → ℕ → List (List ℤ) → Type 0
-Interchangeable i j ks = (k : List ℤ) → List·Memᴰ k ks → List·Memᴰ (swap i j k) ks
-
--- as a test: each row, exchanged, is among the rows
-abbrev pub interchangeable : ℕ → ℕ → List (List ℤ) → Bool
-interchangeable i j ks = every (λ k. any (sameRow (swap i j k)) ks) ks
-
--- a row found is listed
-pub found-listed : (r : List ℤ) (ks : List (List ℤ)) → any (sameRow r) ks ≡ true → List·Memᴰ r ks
-found-listed r [] e = absurd (true-holds false e)
-found-listed r (k ∷ ks) e = go (found-listed r ks) (sameRow r k) refl
-  where
-    go : (any (sameRow r) ks ≡ true → List·Memᴰ r ks) → (b : Bool) → sameRow r k ≡ b → List·Memᴰ r (k ∷ ks)
-    go rest true p = List·Memᴰ·head (row-true r k .0 p)
-    go rest false p = List·Memᴰ·tail (rest (sym (ap (λ (b : Bool). b || any (sameRow r) ks) p) ∙ e))
-
--- a row listed is found
-pub listed-found : (r : List ℤ) (ks : List (List ℤ)) → List·Memᴰ r ks → any (sameRow r) ks ≡ true
-listed-found r ks m = true-any (sameRow r) ks r m (row-true r r .1 refl)
-
--- the test is true just where the axes are interchangeable
-pub decides-interchangeable : (i j : ℕ) (ks : List (List ℤ)) → (interchangeable i j ks ≡ true) ↔ Interchangeable i j ks
-decides-interchangeable i j ks = (
-  (λ e k m. found-listed (swap i j k) ks (every-true found ks e k m)),
-  (λ h. true-every found ks (λ k m. listed-found (swap i j k) ks (h k m))),
-)
-  where
-    found : List ℤ → Bool
-    found k = any (sameRow (swap i j k)) ks
-
+-- ---- interchangeable axes
 -- ---- the rule
 -- such an exchange is a symmetry of the list
 pub swap-symmetry : (i j : ℕ) (ks : List (List ℤ)) → Interchangeable i j ks → Symmetry ks (swap i j)
@@ -223,14 +184,21 @@ swap-symmetry i j ks closed = record {
 }
 
 -- z with the two components exchanged is admissible with z
-pub swap-admissible : (plan d : ℕ) (ks : List (List ℤ)) (n : ℕ) (z : List ℤ) (i j : ℕ) → ((k : List ℤ) → List·Memᴰ k ks → length k ≡ d) → Interchangeable i j ks → length z ≡ d → Admissible ks n z plan → Admissible ks n (swap i j z) plan
+pub swap-admissible : (plan d : ℕ) (ks : List (List ℤ)) (n : ℕ) (z : List ℤ) (i j : ℕ) → ((k : List ℤ) → List·Memᴰ k ks → length k ≡ d) → Interchangeable i j ks → length z ≡ d → Admissible plan ks n z → Admissible plan ks n (swap i j z)
 swap-admissible plan d ks n z i j long closed e =
     symmetric plan ks n z (swap i j z) (swap i j) (swap-symmetry i j ks closed)
     (λ k s m o. ap (residue n) (dot-swap i j s z (same-length s k (mirror-sizes k s o) ∙ long k m ∙ sym e)))
 
--- ---- in the first vector the components of interchangeable axes rise
-pub swap-first : (plan d : ℕ) (ks : List (List ℤ)) (n : ℕ) (z : List ℕ) (i j : ℕ) → i < j → j < d → ((k : List ℤ) → List·Memᴰ k ks → length k ≡ d) → Interchangeable i j ks → 0 < n → First plan d ks n z → getD z i 0 ≤ getD z j 0
-swap-first plan d ks n z i j l h long closed g f = go (decLe (getD z i 0) (getD z j 0))
+-- what a law of the search asks of a rule: that it passes to z with components i and j exchanged
+abbrev pub Exchanges : ℕ → ℕ → ℕ → Rule → Type 0
+Exchanges i j d rule = (n : ℕ) (z : List ℤ) → length z ≡ d → rule n z → rule n (swap i j z)
+
+pub plan-exchanges : (plan d : ℕ) (ks : List (List ℤ)) (i j : ℕ) → ((k : List ℤ) → List·Memᴰ k ks → length k ≡ d) → Interchangeable i j ks → Exchanges i j d (Admissible plan ks)
+plan-exchanges plan d ks i j long closed n z = swap-admissible plan d ks n z i j long closed
+
+-- ---- in the first vector the components of such axes rise
+pub swap-first : (rule : Rule) (d n : ℕ) (z : List ℕ) (i j : ℕ) → Reduces rule → Exchanges i j d rule → i < j → j < d → 0 < n → First rule d n z → getD z i 0 ≤ getD z j 0
+swap-first rule d n z i j passes exchanges l h g f = go (decLe (getD z i 0) (getD z j 0))
   where
     size : length (map pos z) ≡ d
     size = length-map z pos ∙ f .ranged .size
@@ -244,6 +212,6 @@ swap-first plan d ks n z i j l h long closed g f = go (decLe (getD z i 0) (getD 
     go : Dec (getD z i 0 ≤ getD z j 0) → getD z i 0 ≤ getD z j 0
     go (yes r) = r
     go (no r) =
-        absurd (none-lower plan d ks n z g f (swap i j (map pos z)) (length-swap i j (map pos z) ∙ size)
-        (swap-admissible plan d ks n (map pos z) i j long closed size (f .admissible)) i (omega arith) before
+        absurd (none-lower rule passes d n z g f (swap i j (map pos z)) (length-swap i j (map pos z) ∙ size)
+        (exchanges n (map pos z) size (f .admissible)) i (omega arith) before
         (subst (λ (c : ℕ). c < getD z i 0) (sym (ap (residue n) there ∙ mod-eq-of-lt (f .ranged .below j h))) (omega arith)))

@@ -11,10 +11,10 @@ use lib.IntN.{ℤ, pos}
 use lib.ListN.{length, getD}
 use Rattle.rank1.specs.Residue.{residue, residueAt}
 use Rattle.rank1.specs.Index.{zeroRow, mirrors, mirrored}
-use Rattle.rank1.specs.Rule.{Admissible}
+use Rattle.rank1.specs.Rule.{Rule, Admissible}
 use Rattle.rank1.specs.Search.{Before, First}
 use Rattle.rank1.proofs.MirrorLaws.{sizes, mirror-sizes, sizes-mirror, mirrored-in, mirrored-out}
-use Rattle.rank1.proofs.RuleLaws.{Apart, one-rule, reduction, apart-rows}
+use Rattle.rank1.proofs.RuleLaws.{Apart, one-rule, apart-rows, Reduces}
 use Rattle.rank1.proofs.SearchLaws.{residues-ranged, none-before}
 
 -- a function of rows that keeps the list, and tells rows, zero rows and mirrors from others
@@ -50,13 +50,13 @@ module _ (ks : List (List ℤ)) (f : List ℤ → List ℤ) (y : Symmetry ks f) 
 
 -- ---- the rule is carried over to another vector, with rows moved by f
 -- z′ gives the rows of the pairs the residues that z gives the moved rows
-pub moved : (plan : ℕ) (ks : List (List ℤ)) (n : ℕ) (z z′ : List ℤ) (f : List ℤ → List ℤ) → ((s t : List ℤ) → Apart plan ks s t → Apart plan ks (f s) (f t)) → ((s t : List ℤ) → Apart plan ks s t → (residueAt n z (f s) ≡ residueAt n z′ s) × (residueAt n z (f t) ≡ residueAt n z′ t)) → Admissible ks n z plan → Admissible ks n z′ plan
+pub moved : (plan : ℕ) (ks : List (List ℤ)) (n : ℕ) (z z′ : List ℤ) (f : List ℤ → List ℤ) → ((s t : List ℤ) → Apart plan ks s t → Apart plan ks (f s) (f t)) → ((s t : List ℤ) → Apart plan ks s t → (residueAt n z (f s) ≡ residueAt n z′ s) × (residueAt n z (f t) ≡ residueAt n z′ t)) → Admissible plan ks n z → Admissible plan ks n z′
 moved plan ks n z z′ f pairs equal a =
     one-rule ks n z′ plan .1
     (λ s t p e. let q = equal s t p in one-rule ks n z plan .0 a (f s) (f t) (pairs s t p) (q .0 ∙ e ∙ sym (q .1)))
 
 -- under every plan, where f is a symmetry
-pub symmetric : (plan : ℕ) (ks : List (List ℤ)) (n : ℕ) (z z′ : List ℤ) (f : List ℤ → List ℤ) → Symmetry ks f → ((k s : List ℤ) → List·Memᴰ k ks → List·Memᴰ s (mirrors k) → residueAt n z (f s) ≡ residueAt n z′ s) → Admissible ks n z plan → Admissible ks n z′ plan
+pub symmetric : (plan : ℕ) (ks : List (List ℤ)) (n : ℕ) (z z′ : List ℤ) (f : List ℤ → List ℤ) → Symmetry ks f → ((k s : List ℤ) → List·Memᴰ k ks → List·Memᴰ s (mirrors k) → residueAt n z (f s) ≡ residueAt n z′ s) → Admissible plan ks n z → Admissible plan ks n z′
 symmetric plan ks n z z′ f y equal =
     moved plan ks n z z′ f (apart-moved ks f y plan)
     (apart-rows (λ s. residueAt n z (f s) ≡ residueAt n z′ s) plan ks equal (ap (residueAt n z) (y .empty)))
@@ -73,10 +73,10 @@ lower-before n (x ∷ y) (b ∷ z) (suc i) e l f g =
     inr (f 0 (omega arith), lower-before n y z i (omega arith) (omega arith) (λ a h. f (suc a) (omega arith)) g)
 
 -- no admissible vector of whole numbers has the components of the first one before an axis and a lower residue there
-pub none-lower : (plan d : ℕ) (ks : List (List ℤ)) (n : ℕ) (z : List ℕ) → 0 < n → First plan d ks n z → (y : List ℤ) → length y ≡ d → Admissible ks n y plan → (i : ℕ) → i < d → ((a : ℕ) → a < i → getD y a (pos 0) ≡ pos (getD z a 0)) → residue n (getD y i (pos 0)) < getD z i 0 → ⊥
-none-lower plan d ks n z h f y e r i l before lower =
-    none-before plan d ks n z f (map (residue n) y) (residues-ranged n d y h e)
-    (subst (λ (x : List ℤ). Admissible ks n x plan) (sym (map-map pos (residue n) y)) (reduction plan ks n y h .0 r))
+pub none-lower : (rule : Rule) → Reduces rule → (d n : ℕ) (z : List ℕ) → 0 < n → First rule d n z → (y : List ℤ) → length y ≡ d → rule n y → (i : ℕ) → i < d → ((a : ℕ) → a < i → getD y a (pos 0) ≡ pos (getD z a 0)) → residue n (getD y i (pos 0)) < getD z i 0 → ⊥
+none-lower rule passes d n z h f y e r i l before lower =
+    none-before rule d n z f (map (residue n) y) (residues-ranged n d y h e)
+    (subst (rule n) (sym (map-map pos (residue n) y)) (passes n y h r))
     (lower-before n y z i (e ∙ sym (f .ranged .size)) (omega (arith, f .ranged .size))
     (λ a k. ap (residue n) (before a k) ∙ mod-eq-of-lt (f .ranged .below a (omega arith)))
     lower)

@@ -12,7 +12,7 @@ use lib.ListN.{length, getD}
 use Rattle.rank1.specs.Tests.{every, any, sameNumber, sameRow}
 use Rattle.rank1.specs.Refusal.{repeats}
 use Rattle.rank1.specs.Valid.{Distinct}
-use Rattle.rank1.proofs.Distinct.{Place, place-of, distinct-at}
+use Rattle.rank1.proofs.Distinct.{Place, place-of}
 
 -- ---- a test holds (T b) just where it is true
 pub true-holds : (b : Bool) → b ≡ true → T b
@@ -107,14 +107,6 @@ module _ {A : Type 0} where
   false-any f [] h = refl
   false-any f (x ∷ xs) h = neither (f x) (any f xs) (h x (List·Memᴰ·head refl)) (false-any f xs (λ y m. h y (List·Memᴰ·tail m)))
 
-  -- one member passes
-  pub true-any : (f : A → Bool) (xs : List A) (x : A) → List·Memᴰ x xs → f x ≡ true → any f xs ≡ true
-  true-any f xs x m e = go (any f xs) refl
-    where
-      go : (b : Bool) → any f xs ≡ b → b ≡ true
-      go true p = refl
-      go false p = absurd (false-fails (f x) (any-false f xs p x m) (true-holds (f x) e))
-
 -- ---- equal numbers and equal rows
 pub decides-eqb : (a b : ℕ) → T (eqb a b) ↔ (a ≡ b)
 decides-eqb a b = (eqb→eq a b, λ e. subst (λ (c : ℕ). T (eqb a c)) e (eqb-refl a))
@@ -154,6 +146,13 @@ row-true s t = decided-true (sameRow s t) (decides-row s t)
 pub row-false : (s t : List ℤ) → (sameRow s t ≡ false) ↔ (s ≢ t)
 row-false s t = decided-false (sameRow s t) (decides-row s t)
 
+-- component by component: with equal first components the rest decides, with others the rows differ
+pub same-cons : (x y : ℤ) (s t : List ℤ) → x ≡ y → sameRow s t ≡ sameRow (x ∷ s) (y ∷ t)
+same-cons x y s t e = sym (ap (λ (b : Bool). b && sameRow s t) (decided-true (sameNumber x y) (decides-number x y) .1 e))
+
+pub differ-cons : (x y : ℤ) (s t : List ℤ) → x ≢ y → sameRow (x ∷ s) (y ∷ t) ≡ false
+differ-cons x y s t o = ap (λ (b : Bool). b && sameRow s t) (decided-false (sameNumber x y) (decides-number x y) .1 o)
+
 -- ---- no two rows are equal
 pub repeats-distinct : (ks : List (List ℤ)) → repeats ks ≡ false → Distinct ks
 repeats-distinct [] e = tt
@@ -167,14 +166,6 @@ distinct-repeats (k ∷ ks) d =
     neither (any (sameRow k) ks) (repeats ks)
     (false-any (sameRow k) ks (λ x m. row-false k x .1 (λ e. d .0 (subst (λ (w : List ℤ). List·Memᴰ w ks) (sym e) m))))
     (distinct-repeats ks (d .1))
-
--- by places
-pub repeats-at : (ks : List (List ℤ)) (i j : ℕ) → i < j → j < length ks → getD ks i [] ≡ getD ks j [] → repeats ks ≡ true
-repeats-at ks i j l h e = go (repeats ks) refl
-  where
-    go : (b : Bool) → repeats ks ≡ b → b ≡ true
-    go true p = refl
-    go false p = absurd (distinct-at ks [] i j (repeats-distinct ks p) l h e)
 
 pub places-distinct : {A : Type 0} (w : A) (xs : List A) → ((i j : ℕ) → i < j → j < length xs → getD xs i w ≢ getD xs j w) → Distinct xs
 places-distinct w [] h = tt

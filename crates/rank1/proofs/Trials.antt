@@ -9,13 +9,14 @@ use native.Mathlib.Omega.{arith}
 use lib.Dec.{T}
 use lib.IntN.{ℤ, pos, natAbs}
 use Rattle.rank1.specs.Tests.{sameRow}
+use Rattle.rank1.specs.Rule.{Admissible}
 use Rattle.rank1.specs.RuleTest.{admissible}
 use Rattle.rank1.specs.Search.{Hopeless, First, Smallest, NoPlan}
 use Rattle.rank1.specs.Sums.{copies}
 use Rattle.rank1.specs.Points.{pointLine}
-use Rattle.rank1.proofs.SearchLaws.{Answer, plan-of, Answers, determined}
+use Rattle.rank1.proofs.SearchLaws.{Outcome, plan-of, OutcomeIs, determined}
 use Rattle.rank1.proofs.TestLaws.{both, every-at, decides-row}
-use Rattle.rank1.proofs.SearchTests.{smallestTest, smallest-holds, first-holds, hopeless-holds, no-plan-holds}
+use Rattle.rank1.proofs.SearchTests.{planTested, smallestTest, smallest-holds, first-holds, hopeless-holds, no-plan-holds}
 
 -- a ticket, its answer, and the c of its rows, [] where none is printed
 pub record Ticket : Type 0 where
@@ -64,7 +65,7 @@ module _ (t : Ticket) where
   countsOf = map (copies (t .plan) (t .modulus) (map pos (t .vector))) listOf
 
   pub record Trial : Type 0 where
-    pub smallest : (ceiling : ℕ) → t .modulus ≤ ceiling → Smallest (t .plan) (t .axes) listOf ceiling (t .modulus) (t .vector)
+    pub smallest : (ceiling : ℕ) → t .modulus ≤ ceiling → Smallest (Admissible (t .plan) listOf) (t .axes) ceiling (t .modulus) (t .vector)
     pub counted : t .counts ≢ [] → countsOf ≡ t .counts
 
 -- none is printed, or these
@@ -81,50 +82,50 @@ printed-holds [] ds t h = absurd (h refl)
 printed-holds (c ∷ cs) ds t h = sym (whole-back ds) ∙ ap (map natAbs) (decides-row (map pos ds) (map pos (c ∷ cs)) .0 t) ∙ whole-back (c ∷ cs)
 
 abbrev passes : Ticket → Bool
-passes t = smallestTest (t .plan) (t .axes) (listOf t) (t .modulus) (t .vector) && printed (t .counts) (countsOf t)
+passes t = smallestTest (planTested (t .plan) (listOf t)) (t .axes) (t .modulus) (t .vector) && printed (t .counts) (countsOf t)
 
 -- every ticket of the table, by computing
 pub trials : (t : Ticket) → List·Memᴰ t tickets → Trial t
 unfolding admissible
 trials t m =
-    let u = both (smallestTest (t .plan) (t .axes) (listOf t) (t .modulus) (t .vector)) (printed (t .counts) (countsOf t)) (every-at passes tickets tt t m) in
+    let u = both (smallestTest (planTested (t .plan) (listOf t)) (t .axes) (t .modulus) (t .vector)) (printed (t .counts) (countsOf t)) (every-at passes tickets tt t m) in
     record {
-      smallest = smallest-holds (t .plan) (t .axes) (listOf t) (t .modulus) (t .vector) (u .0);
+      smallest = smallest-holds (planTested (t .plan) (listOf t)) (t .axes) (t .modulus) (t .vector) (u .0);
       counted = printed-holds (t .counts) (countsOf t) (u .1);
     }
 
 -- so whatever answers a ticket's list, plan and ceiling is what the table says
-pub trial-answers : (t : Ticket) → List·Memᴰ t tickets → (ceiling : ℕ) → t .modulus ≤ ceiling → (a : Answer) → Answers (t .plan) (t .axes) (listOf t) ceiling a → a ≡ plan-of (t .modulus) (t .vector)
-trial-answers t m ceiling l a p = determined (t .plan) (t .axes) (listOf t) ceiling a (plan-of (t .modulus) (t .vector)) p (trials t m .smallest ceiling l)
+pub trial-answers : (t : Ticket) → List·Memᴰ t tickets → (ceiling : ℕ) → t .modulus ≤ ceiling → (a : Outcome) → OutcomeIs (Admissible (t .plan) (listOf t)) (t .axes) ceiling a → a ≡ plan-of (t .modulus) (t .vector)
+trial-answers t m ceiling l a p = determined (Admissible (t .plan) (listOf t)) (t .axes) ceiling a (plan-of (t .modulus) (t .vector)) p (trials t m .smallest ceiling l)
 
 -- ---- plan 0, row (6)
 abbrev pub six : List (List ℤ)
 six = (pos 6 ∷ []) ∷ []
 
-pub six-smallest : (ceiling : ℕ) → 4 ≤ ceiling → Smallest 0 1 six ceiling 4 (1 ∷ [])
+pub six-smallest : (ceiling : ℕ) → 4 ≤ ceiling → Smallest (Admissible 0 six) 1 ceiling 4 (1 ∷ [])
 unfolding admissible
-six-smallest = smallest-holds 0 1 six 4 (1 ∷ []) tt
+six-smallest = smallest-holds (planTested 0 six) 1 4 (1 ∷ []) tt
 
-pub six-none : NoPlan 0 1 six 3
+pub six-none : NoPlan (Admissible 0 six) 1 3
 unfolding admissible
-six-none = no-plan-holds 0 1 six 3 tt
+six-none = no-plan-holds (planTested 0 six) 1 3 tt
 
 -- a larger modulus may be worse: 4, 5 and 7 have a vector, and 6 has none
-pub six-at-four : First 0 1 six 4 (1 ∷ [])
+pub six-at-four : First (Admissible 0 six) 1 4 (1 ∷ [])
 unfolding admissible
-six-at-four = first-holds 0 1 six 4 (1 ∷ []) tt
+six-at-four = first-holds (planTested 0 six) 1 4 (1 ∷ []) tt
 
-pub six-at-five : First 0 1 six 5 (1 ∷ [])
+pub six-at-five : First (Admissible 0 six) 1 5 (1 ∷ [])
 unfolding admissible
-six-at-five = first-holds 0 1 six 5 (1 ∷ []) tt
+six-at-five = first-holds (planTested 0 six) 1 5 (1 ∷ []) tt
 
-pub six-at-six : Hopeless 0 1 six 6
+pub six-at-six : Hopeless (Admissible 0 six) 1 6
 unfolding admissible
-six-at-six = hopeless-holds 0 1 six 6 (omega arith) tt
+six-at-six = hopeless-holds (planTested 0 six) 1 6 (omega arith) tt
 
-pub six-at-seven : First 0 1 six 7 (1 ∷ [])
+pub six-at-seven : First (Admissible 0 six) 1 7 (1 ∷ [])
 unfolding admissible
-six-at-seven = first-holds 0 1 six 7 (1 ∷ []) tt
+six-at-seven = first-holds (planTested 0 six) 1 7 (1 ∷ []) tt
 
 -- ---- at n = 5, z = (1, 2), line 3: the residues under plan 1, the tent numerators under plan A
 pub line-three : (pointLine 1 5 (1 ∷ 2 ∷ []) 3 ≡ 3 ∷ 1 ∷ []) × (pointLine 2 5 (1 ∷ 2 ∷ []) 3 ≡ 4 ∷ 2 ∷ [])

@@ -1,23 +1,24 @@
 -- What each condition of the refusal table leaves open where it does not apply; and arguments to which none of the conditions
 -- on a list, or on a pair n, z, applies are valid.
-use mathlib.Core.Path.{_≡_, refl, sym, _∙_, subst}
+use mathlib.Core.Path.{_≡_, refl, sym, subst}
 use mathlib.Core.Logic.{_↔_, _≢_}
 use mathlib.Core.Bool.{Bool, true, false, not, _&&_, _||_}
 use mathlib.Core.List.{List, [], _∷_, map, List·Memᴰ, List·Memᴰ·head, List·Memᴰ·tail}
 use Prim.Native.Nat.{ℕ, zero, suc, _*_, _%_, _<_, _≤_}
-use native.Mathlib.Nat.{div-add-mod', zero-mul}
+use native.Mathlib.Nat.{div-add-mod'}
 use native.Mathlib.Omega.{arith}
 use borrow.Author.Tests.{ltb-false, le-ltb, leb-true, le-leb, leb-false, lt-leb, eqb-false, ne-eqb}
 use lib.Dec.{eqb, leb, ltb, leb→le, le→leb}
 use lib.IntN.{ℤ, pos, negsuc, natAbs}
 use lib.Signed.{ltZ}
 use lib.ListN.{length, getD}
-use Rattle.rank1.specs.Tests.{any}
+use Rattle.rank1.specs.Tests.{every, any}
 use Rattle.rank1.specs.Index.{rowCount, indexList}
 use Rattle.rank1.specs.Rule.{Admissible}
 use Rattle.rank1.specs.RuleTest.{admissible}
 use Rattle.rank1.specs.Search.{InRange}
-use Rattle.rank1.specs.Refusal.{refuse, firstOf, within, outside, repeats, badPlan, badMapPlan, badAxes, badLength, badComponent, equalRows, badModulus, badVector, badPlaces, inadmissible, listConditions, pairConditions}
+use Rattle.rank1.specs.Sums.{gathers}
+use Rattle.rank1.specs.Refusal.{refuse, firstOf, within, outside, repeats, badPlan, badMapPlan, badAxes, badLength, badComponent, equalRows, badModulus, badVector, badPlaces, inadmissible, ungatherable, listConditions, pairConditions}
 use Rattle.rank1.specs.Valid.{Distinct, Nonnegative, ValidList, ValidModulus}
 use Rattle.rank1.proofs.Distinct.{member-at, Place, place-of}
 use Rattle.rank1.proofs.TestLaws.{false-fails, decided-true, decides-both, decides-eqb, either-false, neither, any-false, false-any, repeats-distinct, distinct-repeats}
@@ -107,9 +108,14 @@ vector-clear d n z =
 pub places-clear : (places size : ℕ) → (badPlaces places size ≡ 0) ↔ (places ≡ size)
 places-clear places size = clear 8 (not (eqb places size)) (omega arith) (clear-unequal places size)
 
-pub rule-clear : (plan : ℕ) (ks : List (List ℤ)) (n : ℕ) (z : List ℕ) → (inadmissible plan ks n z ≡ 0) ↔ Admissible ks n (map pos z) plan
+pub rule-clear : (plan : ℕ) (ks : List (List ℤ)) (n : ℕ) (z : List ℕ) → (inadmissible plan ks n z ≡ 0) ↔ Admissible plan ks n (map pos z)
 rule-clear plan ks n z =
-    clear 10 (not (admissible ks n (map pos z) plan)) (omega arith) (clear-not (admissible ks n (map pos z) plan) (rule-true ks n (map pos z) plan))
+    clear 10 (not (admissible plan ks n (map pos z))) (omega arith) (clear-not (admissible plan ks n (map pos z)) (rule-true ks n (map pos z) plan))
+
+pub sums-clear : (plan : ℕ) (ks : List (List ℤ)) (n : ℕ) (z : List ℕ) (sums : List ℤ) → (ungatherable plan ks n z sums ≡ 0) ↔ (every (gathers plan n (map pos z) sums) ks ≡ true)
+sums-clear plan ks n z sums =
+    let b = every (gathers plan n (map pos z) sums) ks in
+    clear 11 (not b) (omega arith) (clear-not b ((λ e. e), (λ e. e)))
 
 -- ---- a valid list
 -- a row of components that are not negative
@@ -140,13 +146,6 @@ module _ (plan d : ℕ) (xs : List ℤ) (none : firstOf (listConditions plan d x
   -- m rows of d components, and one at least
   pub list-whole : length xs ≡ rowCount d xs * d
   list-whole = omega (arith, div-add-mod' (length xs) d, list-length .1 .0)
-
-  pub list-some : 1 ≤ rowCount d xs
-  list-some = go (rowCount d xs) list-whole
-    where
-      go : (m : ℕ) → length xs ≡ m * d → 1 ≤ m
-      go zero e = absurd (list-length .0 (e ∙ zero-mul d))
-      go (suc m) e = omega arith
 
   pub list-components : (x : ℤ) → List·Memᴰ x xs → Ranged plan x
   list-components = component-clear plan xs .0 (firstOf-none (badComponent plan xs) (equalRows d xs ∷ []) .0 after-length .0)

@@ -6,7 +6,7 @@ use Prim.Native.Nat.{ℕ, zero, suc, _*_, _%_, _<_}
 use native.Mathlib.Nat.{mod-lt}
 use lib.IntN.{ℤ, pos}
 use lib.ListN.{length, getD, length-map}
-use Rattle.rank1.specs.Rule.{Admissible}
+use Rattle.rank1.specs.Rule.{Rule, Admissible}
 use Rattle.rank1.specs.Search.{InRange}
 use Rattle.rank1.proofs.DotLaws.{reduced, scaled}
 use Rattle.rank1.proofs.Coprime.{Coprime}
@@ -29,9 +29,16 @@ times-reduced n u [] = refl
 times-reduced n u (x ∷ z) = ap (λ (l : List ℤ). pos ((u * x) % n) ∷ l) (times-reduced n u z)
 
 -- with an inverse of u: admissible together
-pub times-admissible : (plan : ℕ) (ks : List (List ℤ)) (n u : ℕ) (z : List ℕ) → 0 < n → Coprime u n → Admissible ks n (map pos z) plan ↔ Admissible ks n (map pos (times n u z)) plan
+pub times-admissible : (plan : ℕ) (ks : List (List ℤ)) (n u : ℕ) (z : List ℕ) → 0 < n → Coprime u n → Admissible plan ks n (map pos z) ↔ Admissible plan ks n (map pos (times n u z))
 times-admissible plan ks n u z h c =
     let s = scaling plan ks n (map pos z) (pos u) (pos (c .inverse)) h (c .is) in
     let r = reduction plan ks n (scaled (pos u) (map pos z)) h in
-    subst (λ (y : List ℤ). Admissible ks n (map pos z) plan ↔ Admissible ks n y plan) (sym (times-reduced n u z))
+    subst (λ (y : List ℤ). Admissible plan ks n (map pos z) ↔ Admissible plan ks n y) (sym (times-reduced n u z))
     ((λ a. r .0 (s .0 a)), (λ a. s .1 (r .1 a)))
+
+-- what a law of the search asks of a rule: that it passes to such a multiple
+abbrev pub Scales : Rule → Type 0
+Scales rule = (n u : ℕ) (z : List ℕ) → 0 < n → Coprime u n → rule n (map pos z) → rule n (map pos (times n u z))
+
+pub plan-scales : (plan : ℕ) (ks : List (List ℤ)) → Scales (Admissible plan ks)
+plan-scales plan ks n u z h c = times-admissible plan ks n u z h c .0

@@ -4,7 +4,7 @@ use mathlib.Core.Logic.{⊎-elim}
 use mathlib.Core.Bool.{Bool, true, false, cond, _&&_, and-true}
 use mathlib.Core.List.{List, [], _∷_, map}
 use Prim.Native.Nat.{ℕ, zero, suc, _+_, _*_, _-_, _/_, _%_, _^_, _<_, _≤_, zero-le}
-use native.Mathlib.Nat.{eq-or-lt-of-le, mul-div-cancel, mul-mod-left, div-add-mod', zero-div, div-le-self}
+use native.Mathlib.Nat.{eq-or-lt-of-le, mul-div-cancel, mul-mod-left, zero-div, div-le-self}
 use native.Mathlib.Omega.{arith}
 use borrow.Author.Tests.{eq-eqb, ne-eqb, le-leb, leb-true}
 use lib.Dec.{eqb, ltb, leb}
@@ -12,7 +12,7 @@ use lib.IntN.{ℤ, pos, negsuc, natAbs, negℤ, _+ℤ_, _*ℤ_, +ℤ-idl, *ℤ-z
 use lib.Signed.{mag, quotZ, remZ}
 use Rattle.rank1.specs.Tests.{upFrom, upTo}
 use Rattle.rank1.specs.Sums.{in32}
-use Rattle.rank1.proofs.Whole.{middle, mul-add, neg-mul}
+use Rattle.rank1.proofs.Whole.{middle, mul-add}
 
 -- ---- the sum of a list
 abbrev pub total : List ℤ → ℤ
@@ -123,14 +123,6 @@ quot-mul (negsuc a) c l = quot-neg (suc a * c) a c (mul-div-cancel (suc a) l)
 -- and its remainder is 0
 pub rem-mul : (a : ℤ) (c : ℕ) → natAbs (a *ℤ pos c) % c ≡ 0
 rem-mul a c = ap (λ (k : ℕ). k % c) (abs-mul a c) ∙ mul-mod-left (natAbs a) c
-
--- where c divides s, the quotient times c is s
-pub quot-exact : (s : ℤ) (c : ℕ) → natAbs s % c ≡ 0 → quotZ s (pos c) *ℤ pos c ≡ s
-quot-exact (pos a) c e = ap pos (omega (arith, div-add-mod' a c))
-quot-exact (negsuc a) c e = neg-mul (pos (suc a / c)) (pos c) ∙ ap (λ (k : ℕ). negℤ (pos k)) whole
-  where
-    whole : suc a / c * c ≡ suc a
-    whole = omega (arith, div-add-mod' (suc a) c)
 
 -- the remainder of whole numbers has the size of that of their sizes
 pub abs-rem : (s : ℤ) (c : ℕ) → natAbs (remZ s (pos c)) ≡ natAbs s % c

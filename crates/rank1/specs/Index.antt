@@ -37,6 +37,13 @@ abbrev pub mirrors : List ℤ → List (List ℤ)
 mirrors [] = [] ∷ []
 mirrors (x ∷ k) = headed (signs x) (mirrors k)
 
+-- the number of non-zero components of a row
+abbrev pub nonzeros : List ℤ → ℕ
+nonzeros [] = 0
+nonzeros (pos zero ∷ k) = nonzeros k
+nonzeros (pos (suc a) ∷ k) = suc (nonzeros k)
+nonzeros (negsuc a ∷ k) = suc (nonzeros k)
+
 -- M: all mirrors of all rows
 abbrev pub mirrored : List (List ℤ) → List (List ℤ)
 mirrored [] = []

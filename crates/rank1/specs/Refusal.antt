@@ -73,7 +73,7 @@ badPlaces places size = refuse 8 (not (eqb places size))
 
 -- 10: map, spread, gather: pair not admissible
 abbrev pub inadmissible : ℕ → List (List ℤ) → ℕ → List ℕ → ℕ
-inadmissible plan ks n z = refuse 10 (not (admissible ks n (map pos z) plan))
+inadmissible plan ks n z = refuse 10 (not (admissible plan ks n (map pos z)))
 
 -- 11: gather: a sum no multiple of c, or a quotient outside 32 bits
 abbrev pub ungatherable : ℕ → List (List ℤ) → ℕ → List ℕ → List ℤ → ℕ
@@ -120,7 +120,11 @@ unfoldable pub pointRefusal : ℕ → ℕ → ℕ → List ℕ → ℕ → ℕ
 pointRefusal plan d n z places =
     firstOf (badPlan plan ∷ badAxes d ∷ pairConditions d n z ++ (badPlaces places (lineCount plan n * d) ∷ []))
 
--- the searches, at the modulus n or up to the ceiling n: 1 2 3 4 5 6 8, and then 9
+-- what makes a list, plan and ceiling valid (document 01, "Search"): none of 1 2 3 4 5 6 applies
+abbrev pub searchConditions : ℕ → ℕ → List ℤ → ℕ → List ℕ
+searchConditions plan d xs n = badPlan plan ∷ listConditions plan d xs ++ (badModulus n ∷ [])
+
+-- the searches, at the modulus n or up to the ceiling n: those, 8, and then 9
 unfoldable pub searchRefusal : ℕ → ℕ → List ℤ → ℕ → ℕ → ℕ
 searchRefusal plan d xs n places =
-    firstOf (badPlan plan ∷ listConditions plan d xs ++ (badModulus n ∷ badPlaces places d ∷ []))
+    firstOf (searchConditions plan d xs n ++ (badPlaces places d ∷ []))

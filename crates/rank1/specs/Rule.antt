@@ -28,11 +28,15 @@ module _ (ks : List (List ℤ)) (n : ℕ) (z : List ℤ) where
   unfoldable pub PlanC : Type 0
   PlanC = (k k′ s : List ℤ) → List·Memᴰ k ks → List·Memᴰ k′ ks → k ≢ k′ → List·Memᴰ s (mirrors k′) → residueAt n z s ≢ residueAt n z k
 
-  -- the rule of the plan named; there is no plan above 4
-  abbrev pub Admissible : ℕ → Type 0
-  Admissible zero = Integrates
-  Admissible (suc zero) = Reconstructs
-  Admissible (suc (suc zero)) = PlanA
-  Admissible (suc (suc (suc zero))) = PlanB
-  Admissible (suc (suc (suc (suc zero)))) = PlanC
-  Admissible (suc (suc (suc (suc (suc p))))) = ⊥
+-- a rule for a list, as the search takes it: a property of a modulus and a vector of whole numbers
+abbrev pub Rule : Type 1
+Rule = ℕ → List ℤ → Type 0
+
+-- the rule of the plan named, for a list; there is no plan above 4
+abbrev pub Admissible : ℕ → List (List ℤ) → Rule
+Admissible zero ks n z = Integrates ks n z
+Admissible (suc zero) ks n z = Reconstructs ks n z
+Admissible (suc (suc zero)) ks n z = PlanA ks n z
+Admissible (suc (suc (suc zero))) ks n z = PlanB ks n z
+Admissible (suc (suc (suc (suc zero)))) ks n z = PlanC ks n z
+Admissible (suc (suc (suc (suc (suc p))))) ks n z = ⊥

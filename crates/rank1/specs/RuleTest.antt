@@ -10,7 +10,7 @@ use Rattle.rank1.specs.Tests.{every, sameRow}
 use Rattle.rank1.specs.Residue.{residueAt}
 use Rattle.rank1.specs.Index.{zeroRow, mirrors, mirrored}
 
-module _ (ks : List (List ℤ)) (n : ℕ) (z : List ℤ) where
+module _ (n : ℕ) (z : List ℤ) where
   -- the residues of two rows differ
   abbrev pub differ : List ℤ → List ℤ → Bool
   differ s t = not (eqb (residueAt n z s) (residueAt n z t))
@@ -31,15 +31,15 @@ module _ (ks : List (List ℤ)) (n : ℕ) (z : List ℤ) where
   abbrev pub apartC : List ℤ → List ℤ → Bool
   apartC k k′ = sameRow k k′ || every (λ s. differ s k) (mirrors k′)
 
-  -- all pairs of members of a list
-  abbrev pub allPairs : (List ℤ → List ℤ → Bool) → List (List ℤ) → Bool
-  allPairs f ss = every (λ s. every (f s) ss) ss
+-- all pairs of members of a list
+abbrev pub allPairs : (List ℤ → List ℤ → Bool) → List (List ℤ) → Bool
+allPairs f ss = every (λ s. every (f s) ss) ss
 
-  -- the rule of the plan named; there is no plan above 4
-  unfoldable pub admissible : ℕ → Bool
-  admissible zero = every integrates ks
-  admissible (suc zero) = allPairs apart ks
-  admissible (suc (suc zero)) = allPairs apart (mirrored ks)
-  admissible (suc (suc (suc zero))) = allPairs apartB ks
-  admissible (suc (suc (suc (suc zero)))) = allPairs apartC ks
-  admissible (suc (suc (suc (suc (suc p))))) = false
+-- the rule of the plan named; there is no plan above 4
+unfoldable pub admissible : ℕ → List (List ℤ) → ℕ → List ℤ → Bool
+admissible zero ks n z = every (integrates n z) ks
+admissible (suc zero) ks n z = allPairs (apart n z) ks
+admissible (suc (suc zero)) ks n z = allPairs (apart n z) (mirrored ks)
+admissible (suc (suc (suc zero))) ks n z = allPairs (apartB n z) ks
+admissible (suc (suc (suc (suc zero)))) ks n z = allPairs (apartC n z) ks
+admissible (suc (suc (suc (suc (suc p))))) ks n z = false

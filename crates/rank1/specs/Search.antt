@@ -1,11 +1,12 @@
--- What the searches look for (demand 3; document 01, "Search"). Nothing here searches: each definition speaks of all vectors.
+-- What the searches look for (demand 3; document 01, "Search"). Nothing here searches: each definition speaks of all vectors. They
+-- take any rule; that of a plan for a list is `Admissible plan ks`.
 use mathlib.Core.Path.{_≡_}
 use mathlib.Core.Logic.{_⊎_, _≢_}
 use mathlib.Core.List.{List, [], _∷_, map}
 use Prim.Native.Nat.{ℕ, _<_, _≤_}
 use lib.IntN.{ℤ, pos}
 use lib.ListN.{length, getD}
-use Rattle.rank1.specs.Rule.{Admissible}
+use Rattle.rank1.specs.Rule.{Rule}
 
 -- y comes before z in dictionary order: the first component is the most significant
 unfoldable pub Before : List ℕ → List ℕ → Type 0
@@ -18,16 +19,16 @@ pub record InRange (n d : ℕ) (z : List ℕ) : Type 0 where
   pub size : length z ≡ d
   pub below : (j : ℕ) → j < d → getD z j 0 < n
 
-module _ (plan d : ℕ) (ks : List (List ℤ)) where
+module _ (rule : Rule) (d : ℕ) where
   -- the modulus n fails with every vector of d whole numbers, of any sign and size
   unfoldable pub Hopeless : ℕ → Type 0
-  Hopeless n = (z : List ℤ) → length z ≡ d → Admissible ks n z plan → ⊥
+  Hopeless n = (z : List ℤ) → length z ≡ d → rule n z → ⊥
 
   -- z is the first admissible vector at n: every other one with components from 0 to n - 1 comes after it
   pub record First (n : ℕ) (z : List ℕ) : Type 0 where
     pub ranged : InRange n d z
-    pub admissible : Admissible ks n (map pos z) plan
-    pub others-after : (y : List ℕ) → InRange n d y → Admissible ks n (map pos y) plan → y ≢ z → Before z y
+    pub admissible : rule n (map pos z)
+    pub others-after : (y : List ℕ) → InRange n d y → rule n (map pos y) → y ≢ z → Before z y
 
   -- n, z is the smallest plan up to the ceiling: every smaller modulus is hopeless
   pub record Smallest (ceiling n : ℕ) (z : List ℕ) : Type 0 where

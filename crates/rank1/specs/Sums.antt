@@ -1,5 +1,5 @@
 -- Map, spread and gather (document 01), for plans 1 to 4.
-use mathlib.Core.Bool.{Bool, cond, not, _&&_}
+use mathlib.Core.Bool.{Bool, cond, _&&_}
 use mathlib.Core.List.{List, [], _∷_, map}
 use Prim.Native.Nat.{ℕ, _%_}
 use lib.Dec.{eqb, leb}

@@ -1,11 +1,12 @@
--- Valid arguments in words: what holds where none of the conditions 2 to 5, or 6 and 7, of the refusal table applies. Private
--- functions ask for these; proofs/ValidLaws.antt has that they follow from the conditions.
+-- Valid arguments in words: what holds where none of the conditions 1 to 7 of the refusal table applies. Private functions ask for
+-- these; proofs/ValidLaws.antt has that they follow from the conditions.
 use mathlib.Core.Path.{_≡_}
 use mathlib.Core.List.{List, [], _∷_, List·Memᴰ}
-use Prim.Native.Nat.{ℕ, _*_, _<_, _≤_}
+use Prim.Native.Nat.{ℕ, _*_, _≤_}
 use lib.IntN.{ℤ, pos, negsuc, natAbs}
 use lib.ListN.{length, getD}
 use Rattle.rank1.specs.Index.{rowCount, indexList}
+use Rattle.rank1.specs.Search.{InRange}
 
 -- no two members are equal
 abbrev pub Distinct : {A : Type 0} → List A → Type 0
@@ -32,3 +33,10 @@ pub record ValidList (plan d : ℕ) (xs : List ℤ) : Type 0 where
 pub record ValidModulus (n : ℕ) : Type 0 where
   pub low : 1 ≤ n
   pub high : n ≤ 8192
+
+-- a plan, a list and a pair n, z
+pub record ValidCall (plan d : ℕ) (xs : List ℤ) (n : ℕ) (z : List ℕ) : Type 0 where
+  pub plans : plan ≤ 4
+  pub list : ValidList plan d xs
+  pub modulus : ValidModulus n
+  pub vector : InRange n d z

@@ -17,10 +17,10 @@ use lib.Seq.{drop-cons, drop-drop}
 use mir.Syntax.{w16}
 use mir.Val.{toZ, ofZ}
 use mir.Facts.{toZ-ofZ}
-use Rattle.rank1.specs.Tests.{any, sameNumber, sameRow}
+use Rattle.rank1.specs.Tests.{any, sameRow}
 use Rattle.rank1.specs.Index.{rowsOf}
 use Rattle.rank1.specs.Refusal.{refuse, firstOf, within, outside, repeats}
-use Rattle.rank1.proofs.TestLaws.{decided-true, decided-false, decides-number}
+use Rattle.rank1.proofs.TestLaws.{same-cons, differ-cons}
 use Rattle.rank1.proofs.RefusalLaws.{firstOf-append, firstOf-skip, firstOf-applies}
 
 -- ---- a condition's number, where the condition applies and where it does not
@@ -164,24 +164,18 @@ same-none xs d a b j l =
 
 -- component j, and the rest
 module _ (xs : List ℤ) (d a b j : ℕ) (l : j < d) (p : a + d ≤ length xs) (q : b + d ≤ length xs) where
-  same-turn : sameRest xs d a b j ≡ (sameNumber (getD xs (a + j) (pos 0)) (getD xs (b + j) (pos 0)) && sameRest xs d a b (j + 1))
+  same-turn : sameRest xs d a b j ≡ sameRow (getD xs (a + j) (pos 0) ∷ rowRest xs d a (j + 1)) (getD xs (b + j) (pos 0) ∷ rowRest xs d b (j + 1))
   same-turn =
       ap (λ (s : List ℤ). sameRow s (rowRest xs d b j)) (rest-turn xs d a j l p)
       ∙ ap (sameRow (getD xs (a + j) (pos 0) ∷ rowRest xs d a (j + 1))) (rest-turn xs d b j l q)
 
   -- component j differs
   pub same-fails : (getD xs (a + j) (pos 0) ≡ getD xs (b + j) (pos 0) → ⊥) → sameRest xs d a b j ≡ false
-  same-fails h =
-      let x = getD xs (a + j) (pos 0) in
-      let y = getD xs (b + j) (pos 0) in
-      same-turn ∙ and-fails (sameNumber x y) (sameRest xs d a b (j + 1)) (decided-false (sameNumber x y) (decides-number x y) .1 h)
+  same-fails h = same-turn ∙ differ-cons (getD xs (a + j) (pos 0)) (getD xs (b + j) (pos 0)) (rowRest xs d a (j + 1)) (rowRest xs d b (j + 1)) h
 
   -- component j is the same
   pub same-more : getD xs (a + j) (pos 0) ≡ getD xs (b + j) (pos 0) → sameRest xs d a b (j + 1) ≡ sameRest xs d a b j
-  same-more h =
-      let x = getD xs (a + j) (pos 0) in
-      let y = getD xs (b + j) (pos 0) in
-      sym (same-turn ∙ and-skip (sameNumber x y) (sameRest xs d a b (j + 1)) (decided-true (sameNumber x y) (decides-number x y) .1 h))
+  same-more h = same-cons (getD xs (a + j) (pos 0)) (getD xs (b + j) (pos 0)) (rowRest xs d a (j + 1)) (rowRest xs d b (j + 1)) h ∙ sym same-turn
 
 -- ---- the rows of a run, from the front: of m rows i are passed, and the next one starts at a place
 abbrev pub rowsLeft : List ℤ → ℕ → ℕ → ℕ → ℕ → List (List ℤ)

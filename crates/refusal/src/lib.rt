@@ -2,12 +2,12 @@
 
 ghost use mathlib.Core.Path.{_≡_};
 ghost use mathlib.Core.List.{_++_};
-ghost use Prim.Native.Nat.{_+_, _*_, _≤_, _<_};
+ghost use Prim.Native.Nat.{_+_, _*_, _≤_};
 ghost use lib.Dec.{leb};
 ghost use lib.ListN.{length, take, drop};
 ghost use Rattle.rank1.specs.Tests.{any, sameRow};
 ghost use Rattle.rank1.specs.Index.{rowsOf};
-ghost use Rattle.rank1.specs.Refusal.{outside, repeats, firstOf, badPlan, badMapPlan, badAxes, badLength, badModulus, badVector, badPlaces, listConditions, pairConditions, searchRefusal};
+ghost use Rattle.rank1.specs.Refusal.{outside, repeats, firstOf, badPlan, badMapPlan, badAxes, badLength, badModulus, badVector, badPlaces, listConditions, pairConditions};
 
 // Condition 4 of one component: larger than 255 in size, or negative for plans 2, 3 and 4.
 fn out_of_range(plan: u8, x: i16) -> bool
@@ -201,23 +201,4 @@ pub fn list_pair_refusal(plan: u8, d: usize, rows: &[i16], n: u16, z: &[u16]) ->
         return list;
     }
     pair_refusal(d, n, z)
-}
-
-// Conditions 1 to 6 and 8 of a search.
-pub fn search_refusal(plan: u8, d: usize, rows: &[i16], n: u16, places: usize) -> u8
-    ensures { λ r. ⌜ r ≡ searchRefusal plan d (now (rows .entry)) n places ⌝ }
-{
-    let named = plan_refusal(plan);
-    if named != 0 {
-        return named;
-    }
-    let list = list_refusal(plan, d, rows);
-    if list != 0 {
-        return list;
-    }
-    let modulus = modulus_refusal(n);
-    if modulus != 0 {
-        return modulus;
-    }
-    places_refusal(places, d)
 }

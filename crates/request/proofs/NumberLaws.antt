@@ -1,8 +1,8 @@
 -- The text of a number: by its own recursion, its length, that it consists of digits, and that it is read back. So the text
 -- determines the number.
 use mathlib.Core.Path.{_≡_, refl, sym, _∙_, ap}
-use mathlib.Core.Bool.{Bool, true≢false, true, false, not, _&&_, _||_}
-use mathlib.Core.List.{List, [], _∷_, _++_}
+use mathlib.Core.Bool.{Bool, true, false, not, _||_}
+use mathlib.Core.List.{List, [], _∷_, _++_, append-nil}
 use Prim.Native.Nat.{ℕ, zero, suc, _+_, _-_, _*_, _/_, _%_, _^_, _<_, _≤_}
 use native.Mathlib.Nat.{pow-suc, mod-lt, div-add-mod', div-lt-iff-lt-mul}
 use native.Mathlib.Decide.{decLt}
@@ -14,6 +14,7 @@ use lib.Seq.{drop-append-seam}
 use Rattle.rank1.specs.Tests.{every}
 use Rattle.request.specs.Text.{isDigit, digits, decimalFrom, decimal, startsWithZero, isField, numberTextIn, numberText}
 use Rattle.request.specs.Reading.{got, readNumber}
+use Rattle.request.proofs.CondLaws.{both-true}
 
 -- at any fuel: one digit
 short-in : (f x : ℕ) → x < 10 → numberTextIn f x ≡ (48 + x) ∷ []
@@ -82,11 +83,6 @@ number-some =
 digit-is : (k : ℕ) → k < 10 → isDigit (48 + k) ≡ true
 digit-is k l = rw (le-leb 48 (48 + k) (omega arith), le-leb (48 + k) 57 (omega arith))
 
--- both are true
-pub both-true : (a b : Bool) → (a && b) ≡ true → (a ≡ true) × (b ≡ true)
-both-true true b h = (refl, h)
-both-true false b h = absurd (true≢false (sym h))
-
 -- all of two lists joined
 every-append : (f : ℕ → Bool) (s t : List ℕ) → every f s ≡ true → every f t ≡ true → every f (s ++ t) ≡ true
 every-append f [] t h k = k
@@ -101,26 +97,17 @@ number-digits =
     (λ x l. rw (number-short x l, digit-is x l))
     (λ x l h. rw (number-long x l) (every-append isDigit (numberText (x / 10)) ((48 + x % 10) ∷ []) h (rw (digit-is (x % 10) (mod-lt x (omega arith))))))
 
--- the digits at the front are those before the first other byte
-digits-front : (s : List ℕ) (b : ℕ) (t : List ℕ) → every isDigit s ≡ true → isDigit b ≡ false → digits (s ++ (b ∷ t)) ≡ s
-digits-front [] b t h k = rw k
-digits-front (a ∷ s) b t h k =
+-- digits before another text
+digits-append : (s t : List ℕ) → every isDigit s ≡ true → digits (s ++ t) ≡ s ++ digits t
+digits-append [] t h = refl
+digits-append (a ∷ s) t h =
     let p = both-true (isDigit a) (every isDigit s) h in
-    rw (p .0) (ap (λ (r : List ℕ). a ∷ r) (digits-front s b t (p .1) k))
+    rw (p .0) (ap (λ (r : List ℕ). a ∷ r) (digits-append s t (p .1)))
 
--- where no other byte follows, it is the whole
-digits-whole : (s : List ℕ) → every isDigit s ≡ true → digits s ≡ s
-digits-whole [] h = refl
-digits-whole (a ∷ s) h =
-    let p = both-true (isDigit a) (every isDigit s) h in
-    rw (p .0) (ap (λ (r : List ℕ). a ∷ r) (digits-whole s (p .1)))
-
--- the digits at the front of a number's text
-pub number-front : (x b : ℕ) (t : List ℕ) → isDigit b ≡ false → digits (numberText x ++ (b ∷ t)) ≡ numberText x
-number-front x b t h = digits-front (numberText x) b t (number-digits x) h
-
-pub number-whole : (x : ℕ) → digits (numberText x) ≡ numberText x
-number-whole x = digits-whole (numberText x) (number-digits x)
+-- the digits at the front of a number's text, where no digit stands behind it
+pub number-front : (x : ℕ) (t : List ℕ) → digits t ≡ [] → digits (numberText x ++ t) ≡ numberText x
+number-front x t h =
+    digits-append (numberText x) t (number-digits x) ∙ ap (λ (r : List ℕ). numberText x ++ r) h ∙ append-nil (numberText x)
 
 -- ---- reading back
 -- digits behind digits
@@ -166,8 +153,8 @@ number-field x l =
     form (no h) = or-right (leb (length (numberText x)) 1) (not (startsWithZero (numberText x))) (ap not (number-leading x (omega arith)))
 
 -- a number is read back from its text, where no digit stands behind it
-pub number-read : (x b : ℕ) (t : List ℕ) → x < 1000000 → isDigit b ≡ false → readNumber (numberText x ++ (b ∷ t)) ≡ got x (b ∷ t)
-number-read x b t l h =
-    rw (number-front x b t h, number-field x l)
-    (ap (λ (v : ℕ). got v (drop (length (numberText x)) (numberText x ++ (b ∷ t)))) (number-decimal x)
-    ∙ ap (λ (r : List ℕ). got x r) (drop-append-seam (numberText x) (b ∷ t)))
+pub number-read : (x : ℕ) (t : List ℕ) → x < 1000000 → digits t ≡ [] → readNumber (numberText x ++ t) ≡ got x t
+number-read x t l h =
+    rw (number-front x t h, number-field x l)
+    (ap (λ (v : ℕ). got v (drop (length (numberText x)) (numberText x ++ t))) (number-decimal x)
+    ∙ ap (λ (r : List ℕ). got x r) (drop-append-seam (numberText x) t))

@@ -1,19 +1,21 @@
--- What a text asks, in bounds: a refusal's number is at most 12; a request has a plan from 0 to 4, 1 to 6 axes, and a run of m × d
--- numbers with m from 1 to 512.
+-- What a text asks, in bounds (reading-bounded): a refusal's number is at most 12; a request has a plan from 0 to 4, 1 to 6 axes, and
+-- a run of m × d numbers with m from 1 to 512. And a text that asks for a plan, taken apart into its lines (lines-of).
 use mathlib.Core.Path.{_≡_, refl, sym, _∙_, ap, subst}
 use mathlib.Core.Bool.{Bool, true, false, cond, not}
 use mathlib.Core.List.{List, [], _∷_}
-use Prim.Native.Nat.{ℕ, zero, suc, _*_, _≤_}
-use native.Mathlib.Nat.{zero-mul, suc-mul}
+use Prim.Native.Nat.{ℕ, zero, suc, _*_, _/_, _≤_}
+use native.Mathlib.Nat.{zero-mul, suc-mul, mul-div-cancel}
 use native.Mathlib.Omega.{arith}
-use borrow.Author.Tests.{leb-true, ltb-false, not-false}
-use lib.Dec.{eqb, leb, ltb}
+use borrow.Author.Tests.{ltb-false, not-false}
+use lib.Dec.{eqb, ltb}
 use lib.IntN.{ℤ}
 use lib.ListN.{length, length-append}
+use Rattle.rank1.specs.Index.{rowCount}
 use Rattle.rank1.specs.Refusal.{within, refuse, firstOf, badPlan, badAxes}
 use Rattle.rank1.proofs.RefusalLaws.{firstOf-none, refuse-none}
 use Rattle.request.specs.Reading.{Parsed, bad, got, andThen, expect, readLine, readNumber, readSigned, readRows, Reading, refused, request, afterRows, headRefusal, unless, afterHead, reading}
-use Rattle.request.proofs.NumberLaws.{both-true}
+use Rattle.request.specs.Inner.{HeadIn}
+use Rattle.request.proofs.CondLaws.{within-of}
 
 -- ---- how many fields are read
 module _ {A : Type 0} where
@@ -64,6 +66,10 @@ rows-members d (suc m) s =
     (λ k r e. members-after (m * d) (suc m * d) (readRows d m r) _ (rows-members d m r)
     (λ ks t f. length-append k ks ∙ omega (arith, e, f, suc-mul m d)))
 
+-- so a run of them has m rows
+pub rows-counted : (d m : ℕ) (run : List ℤ) → 1 ≤ d → length run ≡ m * d → rowCount d run ≡ m
+rows-counted d m run l e = ap (λ (k : ℕ). k / d) e ∙ mul-div-cancel m l
+
 -- ---- the refusals of line 1
 -- the first of three conditions that applies is one of them
 pub three-le : (b i j k : ℕ) → i ≤ b → j ≤ b → k ≤ b → firstOf (i ∷ j ∷ k ∷ []) ≤ b
@@ -87,8 +93,7 @@ refuse-le b k false h = omega arith
 -- a number that is not out of range is in it
 pub within-holds : (number low high x : ℕ) → 1 ≤ number → refuse number (not (within low high x)) ≡ 0 → (low ≤ x) × (x ≤ high)
 within-holds number low high x h e =
-    let p = both-true (leb low x) (leb x high) (not-false (within low high x) (refuse-none number (not (within low high x)) h .0 e)) in
-    (leb-true low x (p .0), leb-true x high (p .1))
+    within-of low high x (not-false (within low high x) (refuse-none number (not (within low high x)) h .0 e))
 
 -- the number is at most 12
 head-small : (plan d m : ℕ) → headRefusal plan d m ≤ 12
@@ -97,13 +102,7 @@ head-small plan d m =
     (refuse-le 12 1 (ltb 4 plan) (omega arith)) (refuse-le 12 2 (not (within 1 6 d)) (omega arith))
     (refuse-le 12 3 (not (within 1 512 m)) (omega arith))
 
--- line 1 is in range
-pub record HeadIn (plan d m : ℕ) : Type 0 where
-  pub plans : plan ≤ 4
-  pub axes : (1 ≤ d) × (d ≤ 6)
-  pub rows : (1 ≤ m) × (m ≤ 512)
-
--- none of the refusals applies: it is
+-- none of the refusals applies: line 1 is in range
 pub head-in : (plan d m : ℕ) → headRefusal plan d m ≡ 0 → HeadIn plan d m
 head-in plan d m e =
     let n = three-none (badPlan plan) (badAxes d) (refuse 3 (not (within 1 512 m))) e in
@@ -159,3 +158,52 @@ pub reading-bounded : (text : List ℕ) → Bounded (reading text)
 unfolding reading
 reading-bounded text =
     cond-bounded (ltb 32768 (length text)) (afterHead (readLine readNumber 4 text)) (head-bounded (readLine readNumber 4 text))
+
+-- ---- a text that reads as a request, taken apart
+-- a refusal is no request
+never : {P : Type 0} (k plan d ceiling : ℕ) (run : List ℤ) → refused k ≡ request plan d ceiling run → P
+never k plan d ceiling run e = absurd (let z : _≡_ {A = ℕ} 0 1 = cc in omega arith)
+
+-- so nothing stands behind the rows, no refusal of line 1 applies, line 1 has four fields, and there are not too many bytes
+rows-taken : (plan d ceiling : ℕ) (p : Parsed (List ℤ)) (plan′ d′ ceiling′ : ℕ) (run : List ℤ) → afterRows plan d ceiling p ≡ request plan′ d′ ceiling′ run → (plan ≡ plan′) × (d ≡ d′) × (ceiling ≡ ceiling′) × (p ≡ got run [])
+rows-taken plan d ceiling bad plan′ d′ ceiling′ run e = never 12 plan′ d′ ceiling′ run e
+rows-taken plan d ceiling (got xs []) plan′ d′ ceiling′ run e = ((cc), (cc), (cc), (cc))
+rows-taken plan d ceiling (got xs (b ∷ s)) plan′ d′ ceiling′ run e = never 12 plan′ d′ ceiling′ run e
+
+unless-taken : (k : ℕ) (r : Reading) (plan d ceiling : ℕ) (run : List ℤ) → unless k r ≡ request plan d ceiling run → (k ≡ 0) × (r ≡ request plan d ceiling run)
+unless-taken zero r plan d ceiling run e = (refl, e)
+unless-taken (suc k) r plan d ceiling run e = never (suc k) plan d ceiling run e
+
+-- line 1 was read, and then the rows
+pub record Lines (p : Parsed (List ℕ)) (plan d ceiling : ℕ) (run : List ℤ) : Type 0 where
+  pub count : ℕ
+  pub rest : List ℕ
+  pub head : p ≡ got (plan ∷ d ∷ count ∷ ceiling ∷ []) rest
+  pub none : headRefusal plan d count ≡ 0
+  pub rows : readRows d count rest ≡ got run []
+
+head-taken : (p : Parsed (List ℕ)) (plan d ceiling : ℕ) (run : List ℤ) → afterHead p ≡ request plan d ceiling run → Lines p plan d ceiling run
+head-taken bad plan d ceiling run e = never 12 plan d ceiling run e
+head-taken (got [] s) plan d ceiling run e = never 12 plan d ceiling run e
+head-taken (got (a ∷ []) s) plan d ceiling run e = never 12 plan d ceiling run e
+head-taken (got (a ∷ b ∷ []) s) plan d ceiling run e = never 12 plan d ceiling run e
+head-taken (got (a ∷ b ∷ m ∷ []) s) plan d ceiling run e = never 12 plan d ceiling run e
+head-taken (got (a ∷ b ∷ m ∷ c ∷ []) s) plan d ceiling run e =
+    let u = unless-taken (headRefusal a b m) (afterRows a b c (readRows b m s)) plan d ceiling run e in
+    let r = rows-taken a b c (readRows b m s) plan d ceiling run (u .1) in
+    record {
+      count = m;
+      rest = s;
+      head = cc (r .0, r .1, r .2);
+      none = ap (λ (x : ℕ). headRefusal x d m) (sym (r .0)) ∙ ap (λ (x : ℕ). headRefusal a x m) (sym (r .1)) ∙ u .0;
+      rows = ap (λ (x : ℕ). readRows x m s) (sym (r .1)) ∙ r .3;
+    }
+head-taken (got (a ∷ b ∷ m ∷ c ∷ x ∷ xs) s) plan d ceiling run e = never 12 plan d ceiling run e
+
+pub lines-of : (text : List ℕ) (plan d ceiling : ℕ) (run : List ℤ) → reading text ≡ request plan d ceiling run → Lines (readLine readNumber 4 text) plan d ceiling run
+unfolding reading
+lines-of text plan d ceiling run e = go (ltb 32768 (length text)) e
+  where
+    go : (t : Bool) → cond t (refused 12) (afterHead (readLine readNumber 4 text)) ≡ request plan d ceiling run → Lines (readLine readNumber 4 text) plan d ceiling run
+    go true e = never 12 plan d ceiling run e
+    go false e = head-taken (readLine readNumber 4 text) plan d ceiling run e

@@ -5,6 +5,7 @@ use mathlib.Core.List.{List, [], _∷_, _++_, map}
 use Prim.Native.Nat.{ℕ, zero, suc}
 use lib.IntN.{ℤ, pos}
 use Rattle.rank1.specs.Index.{indexList}
+use Rattle.rank1.specs.Rule.{Admissible}
 use Rattle.rank1.specs.Search.{Smallest, NoPlan}
 use Rattle.rank1.specs.Sums.{residueMap}
 use Rattle.rank1.specs.Refusal.{firstOf, badComponent, equalRows, badModulus}
@@ -13,7 +14,7 @@ use Rattle.request.specs.Reading.{Reading, refused, request, reading}
 
 -- the word `refused` and a space
 abbrev pub refusedWord : List ℕ
-refusedWord = 114 ∷ 101 ∷ 102 ∷ 117 ∷ 115 ∷ 101 ∷ 100 ∷ 32 ∷ []
+refusedWord = 114 ∷ 101 ∷ 102 ∷ 117 ∷ 115 ∷ 101 ∷ 100 ∷ space ∷ []
 
 -- a refusal: the word, the number, a newline
 abbrev pub refusalText : ℕ → List ℕ
@@ -35,26 +36,31 @@ abbrev pub planText : ℕ → ℕ → List ℕ → List (List ℤ) → List ℕ
 planText zero n z ks = numberText n ++ vectorText z
 planText (suc p) n z ks = numberText n ++ vectorText z ++ mapText (residueMap (suc p) n (map pos z) ks)
 
--- the smallest plan, or 9 where there is none
-pub record Planned (plan d ceiling : ℕ) (ks : List (List ℤ)) (answer : List ℕ) : Type 0 where
+-- the text of the smallest plan
+pub record SmallestText (plan d ceiling : ℕ) (ks : List (List ℤ)) (answer : List ℕ) : Type 0 where
   pub modulus : ℕ
   pub vector : List ℕ
-  pub smallest : Smallest plan d ks ceiling modulus vector
+  pub smallest : Smallest (Admissible plan ks) d ceiling modulus vector
   pub text : answer ≡ planText plan modulus vector ks
 
+-- that text, or `refused 9` where there is no plan
 abbrev pub PlanOrNine : ℕ → ℕ → ℕ → List (List ℤ) → List ℕ → Type 0
-PlanOrNine plan d ceiling ks answer = Planned plan d ceiling ks answer ⊎ (NoPlan plan d ks ceiling × (answer ≡ refusalText 9))
+PlanOrNine plan d ceiling ks answer = SmallestText plan d ceiling ks answer ⊎ (NoPlan (Admissible plan ks) d ceiling × (answer ≡ refusalText 9))
 
--- refused with the number k, or (0) answered
-abbrev pub RefusedOr : ℕ → List ℕ → Type 0 → Type 0
-RefusedOr zero answer Answers = Answers
-RefusedOr (suc k) answer Answers = answer ≡ refusalText (suc k)
+-- the text of the refusal k, or (0) what answers otherwise
+abbrev pub RefusalTextOr : ℕ → List ℕ → Type 0 → Type 0
+RefusalTextOr zero answer Otherwise = Otherwise
+RefusalTextOr (suc k) answer Otherwise = answer ≡ refusalText (suc k)
+
+-- 4, 5 and 6
+abbrev pub requestRefusal : ℕ → ℕ → ℕ → List ℤ → ℕ
+requestRefusal plan d ceiling run = firstOf (badComponent plan run ∷ equalRows d run ∷ badModulus ceiling ∷ [])
 
 -- what is read is answered: 4, 5, 6, and then the search
 abbrev pub Answers : Reading → List ℕ → Type 0
 Answers (refused k) answer = answer ≡ refusalText k
 Answers (request plan d ceiling run) answer =
-    RefusedOr (firstOf (badComponent plan run ∷ equalRows d run ∷ badModulus ceiling ∷ [])) answer (PlanOrNine plan d ceiling (indexList d run) answer)
+    RefusalTextOr (requestRefusal plan d ceiling run) answer (PlanOrNine plan d ceiling (indexList d run) answer)
 
 -- the answer to a text
 unfoldable pub AnswerTo : List ℕ → List ℕ → Type 0

@@ -1,5 +1,5 @@
 -- How a request is read: line 1 with plan, d, m and N, then m lines of d fields, and nothing after them.
-use mathlib.Core.Bool.{Bool, cond, not}
+use mathlib.Core.Bool.{cond, not}
 use mathlib.Core.List.{List, [], _∷_, _++_}
 use Prim.Native.Nat.{ℕ, zero, suc}
 use lib.Dec.{eqb, ltb}

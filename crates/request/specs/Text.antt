@@ -1,12 +1,12 @@
 -- Texts as lists of bytes: decimal fields and fixed words.
-use mathlib.Core.Bool.{Bool, true, false, cond, not, _&&_, _||_}
+use mathlib.Core.Bool.{Bool, false, cond, not, _&&_, _||_}
 use mathlib.Core.List.{List, [], _∷_, _++_}
 use Prim.Native.Nat.{ℕ, zero, suc, _+_, _-_, _*_, _/_, _%_}
 use lib.Dec.{eqb, leb, ltb}
 use lib.ListN.{length}
 use Rattle.rank1.specs.Refusal.{within}
 
--- the bytes of a space, a newline, a minus and the digit 0
+-- the bytes of a space, a newline, a minus and the digits 0 and 9
 abbrev pub space : ℕ
 space = 32
 
@@ -19,9 +19,12 @@ minus = 45
 abbrev pub digitZero : ℕ
 digitZero = 48
 
+abbrev pub digitNine : ℕ
+digitNine = 57
+
 -- a decimal digit
 abbrev pub isDigit : ℕ → Bool
-isDigit b = within 48 57 b
+isDigit b = within digitZero digitNine b
 
 -- the digits at the front of a text
 abbrev pub digits : List ℕ → List ℕ
@@ -31,7 +34,7 @@ digits (b ∷ s) = cond (isDigit b) (b ∷ digits s) []
 -- the number that digits write, behind a number v
 abbrev pub decimalFrom : ℕ → List ℕ → ℕ
 decimalFrom v [] = v
-decimalFrom v (b ∷ s) = decimalFrom (v * 10 + (b - 48)) s
+decimalFrom v (b ∷ s) = decimalFrom (v * 10 + (b - digitZero)) s
 
 abbrev pub decimal : List ℕ → ℕ
 decimal s = decimalFrom 0 s
@@ -39,7 +42,7 @@ decimal s = decimalFrom 0 s
 -- a digit 0 stands at the front
 abbrev pub startsWithZero : List ℕ → Bool
 startsWithZero [] = false
-startsWithZero (b ∷ s) = eqb b 48
+startsWithZero (b ∷ s) = eqb b digitZero
 
 -- a field: 1 to 6 digits, no superfluous leading zero
 abbrev pub isField : List ℕ → Bool

@@ -6,27 +6,26 @@ mod writing;
 
 use planner::Plan;
 use reading::Asked;
+use reading::MOST_AXES;
+use reading::MOST_ROWS;
 ghost use mathlib.Core.Path.{_≡_};
-ghost use mathlib.Core.List.{_++_};
-ghost use Prim.Native.Nat.{_*_, _≤_};
-ghost use lib.ListN.{length, drop};
-ghost use Rattle.request.specs.Inner.{Holds, HoldsFor, refusalNumber};
-ghost use Rattle.request.specs.Reply.{AnsweredWith};
+ghost use Prim.Native.Nat.{_*_};
+ghost use lib.ListN.{length};
+ghost use Rattle.request.specs.Reading.{request};
+ghost use Rattle.request.specs.Answer.{Answers, AnswerTo};
+ghost use Rattle.request.specs.Inner.{HeadIn};
+ghost use Rattle.request.specs.Reply.{Stands, AnsweredWith};
+
+// The most bytes that a request may have.
+pub const TEXT_BYTES: usize = 32768;
+
+// The most bytes that an answer has.
+pub const ANSWER_BYTES: usize = 8192;
 
 // What became of an answer: how many bytes were written, or there is not room for them.
 pub enum Reply {
     Written(usize),
     NoRoom,
-}
-
-// The number of a search's refusal.
-fn refusal_of(answer: Plan) -> u8
-    ensures { λ r. ⌜ r ≡ refusalNumber answer ⌝ }
-{
-    match answer {
-        Plan::Found(_) => 0,
-        Plan::Refused(number) => number,
-    }
 }
 
 // The answer to a request whose rows are given.
@@ -38,14 +37,14 @@ fn answer_request(
     ceiling: u16,
     buffer: &mut [u8],
 ) -> usize
-    requires { ⌜ (plan ≤ 4) × (1 ≤ d) × (d ≤ 6) × (1 ≤ m) × (m ≤ 512) × (length (now rows) ≡ m * d) × (length (now buffer) ≡ 8192) ⌝ }
-    ensures { λ r. ⌜ HoldsFor plan d (now (rows .entry)) ceiling (now (buffer .exit)) r ⌝ }
+    requires { ⌜ HeadIn plan d m × (length (now rows) ≡ m * d) × (length (now buffer) ≡ 8192) ⌝ }
+    ensures { λ r. ⌜ Stands (Answers (request plan d ceiling (now (rows .entry)))) (now (buffer .entry)) (now (buffer .exit)) r ⌝ }
 {
-    let mut z = [0u16; 6];
-    let mut pairs = [0u16; 1024];
+    let mut z = [0u16; MOST_AXES];
+    let mut pairs = [0u16; 2 * MOST_ROWS];
     let found = planner::search_smallest(plan, d, rows, ceiling, &mut z[..d]);
     let Plan::Found(n) = found else {
-        return writing::write_refusal(buffer, refusal_of(found));
+        return writing::write_refusal(buffer, planner::refusal_of(found));
     };
     let at = writing::write_plan(buffer, n, &z[..d]);
     if plan == 0 {
@@ -56,28 +55,17 @@ fn answer_request(
     writing::write_map(buffer, at, &pairs[..size], m)
 }
 
-// The answer to a text, in a buffer that has room for every answer.
-fn answer_into(text: &[u8], buffer: &mut [u8]) -> usize
-    requires { ⌜ length (now buffer) ≡ 8192 ⌝ }
-    ensures { λ r. ⌜ Holds (now (text .entry)) (now (buffer .exit)) r ⌝ }
+// Answers a text in places that have room for every answer, and returns how many bytes it has. Places past it hold what they held.
+pub fn answer_whole(text: &[u8], out: &mut [u8; ANSWER_BYTES]) -> usize
+    ensures { λ r. ⌜ Stands (AnswerTo (now (text .entry))) (now (out .entry)) (now (out .exit)) r ⌝ }
 {
-    let mut rows = [0i16; 3072];
+    let mut rows = [0i16; MOST_ROWS * MOST_AXES];
     match reading::read_request(text, &mut rows) {
-        Asked::Refused(number) => writing::write_refusal(buffer, number),
+        Asked::Refused(number) => writing::write_refusal(out, number),
         Asked::Request(plan, d, m, ceiling) => {
             let size = m * d;
-            answer_request(plan, d, m, &rows[..size], ceiling, buffer)
+            answer_request(plan, d, m, &rows[..size], ceiling, out)
         }
-    }
-}
-
-// Copies from into the front of to.
-fn copy_front(to: &mut [u8], from: &[u8])
-    requires { ⌜ length (now from) ≤ length (now to) ⌝ }
-    ensures { λ _. ⌜ now (to .exit) ≡ now (from .entry) ++ drop (length (now (from .entry))) (now (to .entry)) ⌝ }
-{
-    for i in 0..from.len() {
-        to[i] = from[i];
     }
 }
 
@@ -85,11 +73,11 @@ fn copy_front(to: &mut [u8], from: &[u8])
 pub fn answer(text: &[u8], out: &mut [u8]) -> Reply
     ensures { λ r. ⌜ AnsweredWith (now (text .entry)) (now (out .entry)) (now (out .exit)) r ⌝ }
 {
-    let mut buffer = [0u8; 8192];
-    let size = answer_into(text, &mut buffer);
+    let mut buffer = [0u8; ANSWER_BYTES];
+    let size = answer_whole(text, &mut buffer);
     if out.len() < size {
         return Reply::NoRoom;
     }
-    copy_front(out, &buffer[..size]);
+    writing::write_bytes(out, 0, &buffer[..size]);
     Reply::Written(size)
 }

@@ -1,13 +1,19 @@
 // Reading a request: fields, lines, the whole text. Places are byte numbers in the text.
 
+use crate::TEXT_BYTES;
 ghost use mathlib.Core.Path.{_≡_};
 ghost use mathlib.Core.Bool.{_&&_};
 ghost use Prim.Native.Nat.{_+_, _*_, _≤_, _<_, min};
 ghost use lib.Dec.{eqb, ltb};
 ghost use lib.ListN.{length, getD, take, drop};
 ghost use Rattle.request.specs.Text.{isDigit, digits, decimal};
-ghost use Rattle.request.specs.Reading.{readNumber, readSigned, readLine, readRows, headRefusal, reading};
-ghost use Rattle.request.specs.Inner.{before, clamped, clampedCeiling, signed, separatorOf, NumberIs, ComponentIs, LineIs, RunIs, AskedIs, BodyIs};
+ghost use Rattle.request.specs.Reading.{readNumber, readSigned, readLine, readRows, afterRows, headRefusal, reading};
+ghost use Rattle.request.specs.Inner.{before, clamped, clampedCeiling, signed, separatorOf, NumberIs, ComponentIs, LineIs, RunIs, HeadIn, AskedIs};
+
+// The most rows and axes that a request may have.
+pub(crate) const MOST_ROWS: usize = 512;
+
+pub(crate) const MOST_AXES: usize = 6;
 
 // A field without a sign and the place behind it.
 pub enum Number {
@@ -43,7 +49,7 @@ pub enum Asked {
 fn is_digit(b: u8) -> bool
     ensures { λ r. ⌜ r ≡ isDigit b ⌝ }
 {
-    48 <= b && b <= 57
+    b'0' <= b && b <= b'9'
 }
 
 // Whether the byte b stands at a place.
@@ -81,7 +87,7 @@ fn value_at(text: &[u8], at: usize, count: usize) -> u32
 {
     let mut value: u32 = 0;
     for i in 0..count {
-        value = value * 10 + (text[at + i] - 48) as u32;
+        value = value * 10 + (text[at + i] - b'0') as u32;
     }
     value
 }
@@ -99,7 +105,7 @@ fn read_number(text: &[u8], at: usize) -> Number
         return Number::Bad;
     }
     if 1 < count {
-        if text[at] == 48 {
+        if text[at] == b'0' {
             return Number::Bad;
         }
     }
@@ -120,23 +126,28 @@ fn read_field(text: &[u8], at: usize, b: u8) -> Number
     Number::Bad
 }
 
+// The byte behind field j of d: a space, or a newline behind the last.
+fn separator(j: usize, d: usize) -> u8
+    requires { ⌜ j < d ⌝ }
+    ensures { λ r. ⌜ r ≡ separatorOf j d ⌝ }
+{
+    if j + 1 < d { b' ' } else { b'\n' }
+}
+
 // Line 1.
 fn read_head(text: &[u8]) -> Line
     ensures { λ r. ⌜ LineIs (now (text .entry)) (readLine readNumber 4 (now (text .entry))) r ⌝ }
 {
-    let Number::Value(plan, a) = read_field(text, 0, 32) else {
-        return Line::Bad;
-    };
-    let Number::Value(d, b) = read_field(text, a, 32) else {
-        return Line::Bad;
-    };
-    let Number::Value(m, c) = read_field(text, b, 32) else {
-        return Line::Bad;
-    };
-    let Number::Value(ceiling, e) = read_field(text, c, 10) else {
-        return Line::Bad;
-    };
-    Line::Fields(plan, d, m, ceiling, e)
+    let mut fields = [0u32; 4];
+    let mut next = 0;
+    for k in 0..fields.len() {
+        let Number::Value(value, behind) = read_field(text, next, separator(k, 4)) else {
+            return Line::Bad;
+        };
+        fields[k] = value;
+        next = behind;
+    }
+    Line::Fields(fields[0], fields[1], fields[2], fields[3], next)
 }
 
 // A component that is larger than any permitted one as 256.
@@ -155,7 +166,7 @@ fn read_component(text: &[u8], at: usize) -> Component
     requires { ⌜ at ≤ length (now text) ⌝ }
     ensures { λ r. ⌜ ComponentIs (now (text .entry)) (readSigned (drop at (now (text .entry)))) r ⌝ }
 {
-    if stands_at(text, at, 45) {
+    if stands_at(text, at, b'-') {
         let Number::Value(value, next) = read_number(text, at + 1) else {
             return Component::Bad;
         };
@@ -168,14 +179,6 @@ fn read_component(text: &[u8], at: usize) -> Component
         return Component::Bad;
     };
     Component::Value(clamp(value, false), next)
-}
-
-// The byte behind field j of d: a space, or a newline behind the last.
-fn separator(j: usize, d: usize) -> u8
-    requires { ⌜ j < d ⌝ }
-    ensures { λ r. ⌜ r ≡ separatorOf j d ⌝ }
-{
-    if j + 1 < d { 32 } else { 10 }
 }
 
 // A row of d fields, written behind the first base places.
@@ -220,11 +223,11 @@ fn clamp_ceiling(ceiling: u32) -> u16
 }
 
 // The whole text.
-pub fn read_request(text: &[u8], rows: &mut [i16]) -> Asked
+pub(crate) fn read_request(text: &[u8], rows: &mut [i16]) -> Asked
     requires { ⌜ length (now rows) ≡ 3072 ⌝ }
     ensures { λ r. ⌜ AskedIs (reading (now (text .entry))) (now (rows .exit)) r ⌝ }
 {
-    if 32768 < text.len() {
+    if TEXT_BYTES < text.len() {
         return Asked::Refused(12);
     }
     let Line::Fields(plan, d, m, ceiling, at) = read_head(text) else {
@@ -266,8 +269,8 @@ fn read_body(
     ceiling: u32,
     rows: &mut [i16],
 ) -> Asked
-    requires { ⌜ (at ≤ length (now text)) × (plan ≤ 4) × (1 ≤ d) × (d ≤ 6) × (1 ≤ m) × (m ≤ 512) × (length (now rows) ≡ 3072) ⌝ }
-    ensures { λ r. ⌜ BodyIs (now (text .entry)) (readRows d m (drop at (now (text .entry)))) plan d m ceiling (now (rows .exit)) r ⌝ }
+    requires { ⌜ (at ≤ length (now text)) × HeadIn plan d m × (length (now rows) ≡ 3072) ⌝ }
+    ensures { λ r. ⌜ AskedIs (afterRows plan d ceiling (readRows d m (drop at (now (text .entry))))) (now (rows .exit)) r ⌝ }
 {
     let Next::At(next) = read_rows(text, at, d, m, rows) else {
         return Asked::Refused(12);

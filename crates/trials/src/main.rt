@@ -4,7 +4,7 @@
 
 use libc::STDIN_FILENO;
 use libc::STDOUT_FILENO;
-use request::Reply;
+use request::ANSWER_BYTES;
 
 fn wide(x: u8) -> usize {
     x as usize
@@ -12,11 +12,9 @@ fn wide(x: u8) -> usize {
 
 // Writes the answer to a request.
 fn write_answer(text: &[u8]) -> bool {
-    let mut out = [0u8; 8192];
-    let Reply::Written(length) = request::answer(text, &mut out) else {
-        return false;
-    };
-    io::write_all(STDOUT_FILENO, &out[..length])
+    let mut out = [0u8; ANSWER_BYTES];
+    let size = request::answer_whole(text, &mut out);
+    io::write_all(STDOUT_FILENO, &out[..size])
 }
 
 // Fills the places with a request and writes its answer.

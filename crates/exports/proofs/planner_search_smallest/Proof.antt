@@ -1,4 +1,4 @@
--- `exports::planner_search_smallest` meets its contract: the planner's own answer meets the relation, and the number and the place are
+-- `exports::planner_search_smallest` meets its contract: the planner's own answer meets the call's promise, and the number and the place are
 -- those of it.
 use borrow.Author.Needs.{needs}
 use Rattle.exports.proofs.AnswerLaws.{planned, refused}
@@ -14,8 +14,8 @@ enum-known-smallest c = search needs
 enum-told : tie.Need-enum-told
 enum-told c = search needs
 
-refusal-in-requires : tie.Need-refusal-in-requires
-refusal-in-requires c κs = search needs
+refusal-of-requires : tie.Need-refusal-of-requires
+refusal-of-requires c κs = search needs
 
 same-length : tie.Need-same-length
 same-length c = search needs
@@ -24,7 +24,7 @@ returns : tie.Need-returns
 returns c =
     let call = c .before .before .before .before .before in
     let was = c .before .enum-told .given in
-    refused (call .search-smallest .result) (was .0 .0) (call .before .before .before .args .found .now) (c .refusal-in .result) (was .1) (call .search-smallest .ensures) (c .refusal-in .ensures)
+    refused (call .search-smallest .result) (was .0 .0) (call .before .before .before .args .found .now) (c .refusal-of .result) (was .1) (call .search-smallest .ensures) (c .refusal-of .ensures)
 
 same-length-2 : tie.Need-same-length-2
 same-length-2 c = search needs
@@ -42,7 +42,7 @@ planner-search-smallest-spec =
     search-smallest-requires
     enum-known-smallest
     enum-told
-    refusal-in-requires
+    refusal-of-requires
     same-length
     returns
     same-length-2

@@ -1,10 +1,9 @@
--- `point_list`: a refusal leaves the lent places; past it the arguments are what `write_points` asks for.
+-- `point_list` meets its contract: a refusal leaves the lent places (`refused`); past it the arguments are what `write_points` asks
+-- for (`point-clear`), and what it writes is the answer (`given`).
 use mathlib.Core.Path.{sym, _∙_}
 use lib.ListN.{length}
-use Rattle.rank1.specs.Points.{pointList}
-use Rattle.rank1.specs.Refusal.{pointRefusal}
 use Rattle.planner.proofs.CallLaws.{refused, given}
-use Rattle.planner.proofs.CallTheorems.{point-clear}
+use Rattle.planner.proofs.refusals.HandedLaws.{point-clear}
 use borrow.Author.Needs.{needs}
 use Rattle.planner.proofs.point_list.Statement.{statement}
 use Rattle.planner.proofs.point_list.Tie as tie
@@ -13,15 +12,13 @@ point-refusal-requires : tie.Need-point-refusal-requires
 point-refusal-requires c κs = search needs
 
 returns : tie.Need-returns
-returns c =
-    let s = c .before .before .before .before .args in
-    let t = c .before .point-refusal in
-    refused (pointRefusal (s .plan) (s .d) (s .n) (s .z .now) (length (s .out .now))) (t .result) (pointList (s .plan) (s .n) (s .z .now)) (s .out .now) (t .ensures) (c .if1 .taken)
+returns c = refused (c .before .point-refusal .ensures) (c .if1 .taken)
 
 write-points-requires : tie.Need-write-points-requires
 write-points-requires c κs =
-    let s = c .before .before .before .before .before .args in
-    let h = point-clear (s .plan) (s .d) (s .n) (s .z .now) (length (s .out .now)) (sym (c .before .before .point-refusal .ensures) ∙ c .before .if1 .left) in
+    let e = c .before in
+    let s = e .before .before .before .before .args in
+    let h = point-clear (s .plan) (s .d) (s .n) (s .z .now) (length (s .out .now)) (sym (e .before .point-refusal .ensures) ∙ e .if1 .left) in
     (h .few-axes, h .modulus, h .vector, h .room)
 
 same-length : tie.Need-same-length
@@ -29,10 +26,8 @@ same-length c = search needs
 
 returns-2 : tie.Need-returns-2
 returns-2 c =
-    let s = c .before .before .before .before .before .before .before .before .args in
-    let t = c .before .before .before .before .before .point-refusal in
-    let w = c .before .before .write-points in
-    given (pointRefusal (s .plan) (s .d) (s .n) (s .z .now) (length (s .out .now))) (pointList (s .plan) (s .n) (s .z .now)) (s .out .now) (w .last .1 .1 .1 .1 .0) (sym (c .before .before .before .before .if1 .left) ∙ t .ensures) (w .ensures)
+    let e = c .before .before .before .before in
+    given (e .before .point-refusal .ensures) (e .if1 .left) (c .before .before .write-points .ensures)
 
 pub point-list-spec : {M : Type 1} → statement M
 point-list-spec =

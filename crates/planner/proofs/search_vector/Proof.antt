@@ -1,37 +1,20 @@
--- `planner::search_vector` meets its contract: a refusal is the number of the first condition that applies; past it the arguments are
--- valid, and the moduli that are run are n alone.
+-- `planner::search_vector` meets its contract: the moduli that are run are n alone.
 use borrow.Author.Needs.{needs}
-use Rattle.planner.proofs.PlanLaws.{search-refused, search-valid, vector-answered}
+use Rattle.planner.proofs.SearchCalls.{vector-search}
 use Rattle.planner.proofs.search_vector.Statement.{statement}
 use Rattle.planner.proofs.search_vector.Tie as tie
 
-search-refusal-requires : tie.Need-search-refusal-requires
-search-refusal-requires c κs = search needs
-
-returns : tie.Need-returns
-returns c =
-    let s = c .before .before .before .args in
-    let refused = c .before .search-refusal in
-    search-refused (s .plan) (s .d) (s .rows .now) (s .n) (s .z .now) (refused .result) (refused .ensures) _ (c .if1 .taken)
-
-first-plan-requires : tie.Need-first-plan-requires
-first-plan-requires c κs =
-    let s = c .before .before .before .before .args in
-    let refused = c .before .before .search-refusal in
-    let v = search-valid (s .plan) (s .d) (s .rows .now) (s .n) (s .z .now) (refused .result) (refused .ensures) (c .before .if1 .left) in
-    (v .0, v .1, v .2 .low, v .2 .high, v .3)
+search-between-requires : tie.Need-search-between-requires
+search-between-requires c κs = λ l. l
 
 same-length : tie.Need-same-length
 same-length c = search needs
 
-returns-2 : tie.Need-returns-2
-returns-2 c =
+returns : tie.Need-returns
+returns c =
     let call = c .before .before in
-    let passed = call .before .before in
-    let s = passed .before .before .before .args in
-    let refused = passed .before .search-refusal in
-    vector-answered (s .plan) (s .d) (s .rows .now) (s .n) (s .z .now) (refused .result) (refused .ensures) (passed .if1 .left) _ (call .first-plan .result) (call .first-plan .ensures)
+    let s = call .before .before .before .args in
+    vector-search (s .plan) (s .d) (s .rows .now) (s .n) (s .z .now) _ (call .search-between .result) (call .search-between .ensures)
 
 pub search-vector-spec : {M : Type 1} → statement M
-search-vector-spec =
-    tie.close (tie.spec search-refusal-requires returns first-plan-requires same-length returns-2)
+search-vector-spec = tie.close (tie.spec search-between-requires same-length returns)

@@ -1,6 +1,6 @@
 -- `request::answer_request` meets its contract. The search's vector stands in the first d of six places and the map in the first
--- 2 × m of 1024; what is written is the refusal (refused-holds), the first line under plan 0 (plan-holds), or the
--- first line and the map (map-holds).
+-- 2 × m of 1024; what is written is the refusal (refused-stands), the first line under plan 0 (plan-stands), or the
+-- first line and the map (map-stands).
 use mathlib.Core.Path.{_≡_, sym, ap, _∙_, subst}
 use mathlib.Core.List.{List, _++_, map}
 use Prim.Native.Nat.{ℕ, _*_}
@@ -11,13 +11,12 @@ use lib.ListN.{length, take, drop, replicate}
 use lib.Seq.{length-take-le, length-front, take-at}
 use Rattle.rank1.specs.Index.{indexList}
 use Rattle.rank1.specs.Sums.{residueMap}
-use Rattle.rank1.specs.Refusal.{mapRefusal}
 use Rattle.planner.specs.declared.Plan.the-variants.{Found}
-use Rattle.planner.specs.Answer.{Answered}
+use Rattle.planner.specs.Answer.{ResidueMapCall}
 use Rattle.request.specs.Text.{numberText}
 use Rattle.request.specs.Answer.{vectorText}
 use Rattle.request.specs.Inner.{Wrote}
-use Rattle.request.proofs.CallerLaws.{SearchedFor, refused-holds, plan-holds, first-line-end, map-written, map-holds}
+use Rattle.request.proofs.SearchedLaws.{SearchedFor, map-written, refused-stands, plan-stands, first-line-end, map-stands}
 use Rattle.request.proofs.answer_request.Statement.{statement}
 use Rattle.request.proofs.answer_request.Tie as tie
 
@@ -35,7 +34,7 @@ start-of c = c .before .before .before
 
 -- d of the six places are lent
 front-size : (s : tie.Start) → length (take (s .args .d) six) ≡ s .args .d
-front-size s = length-take-le (s .args .d) six (s .pre .2)
+front-size s = length-take-le (s .args .d) six (s .pre .0 .axes .1)
 
 -- what is left in them
 abbrev vector-of : tie.After-search-smallest → List ℕ
@@ -65,8 +64,8 @@ searched : (c : tie.After-search-smallest) → SearchedFor (start-of c .args .pl
 searched c =
     let s = start-of c in
     record {
-      head = record { plans = s .pre .0; axes = (s .pre .1, s .pre .2); rows = (s .pre .3, s .pre .4) };
-      size = s .pre .5;
+      head = s .pre .0;
+      size = s .pre .1;
       before = take (s .args .d) six;
       room = front-size s;
       told = c .search-smallest .ensures;
@@ -101,7 +100,7 @@ entry c = start-of (search-of (line-of c))
 
 -- 2 × m of the places are lent
 pairs-size : (s : tie.Start) → length (take (2 * s .args .m) many) ≡ 2 * s .args .m
-pairs-size s = length-take-le (2 * s .args .m) many (omega (arith, s .pre .4))
+pairs-size s = length-take-le (2 * s .args .m) many (omega (arith, s .pre .0 .rows .1))
 
 -- what is left in them
 abbrev pairs-of : tie.After-residue-map → List ℕ
@@ -136,7 +135,7 @@ map-of c =
     let old = take (2 * a .m) many in
     pairs-read c
     ∙ map-written (searched call) (found-of line) (c .before .before .before .if1 .left) old (pairs-of c) (c .residue-map .result) (pairs-size s)
-    (subst (λ (z : List ℕ). Answered (mapRefusal (a .plan) (a .d) (a .rows .now) n z (length old)) (residueMap (a .plan) n (map pos z) (indexList (a .d) (a .rows .now))) old (pairs-of c) (c .residue-map .result))
+    (subst (λ (z : List ℕ). ResidueMapCall (a .plan) (a .d) (a .rows .now) n z old (pairs-of c) (c .residue-map .result))
     (vector-read call) (c .residue-map .ensures))
 
 array-borrow-prefix-z : tie.Need-array-borrow-prefix-z
@@ -168,12 +167,12 @@ returns c =
     let call = c .before .before .before .before .before .before .before .before in
     let a = start-of call .args in
     let told = c .before .before .before .before .before .enum-told .given in
-    refused-holds (searched call) (told .0 .0) (c .before .before .before .refusal-of .result) (a .buffer .now) (c .before .before .write-refusal .last .0) (c .before .before .write-refusal .result) (told .1) (c .before .before .before .refusal-of .ensures) (c .before .before .write-refusal .ensures)
+    refused-stands (searched call) (told .0 .0) (c .before .before .before .refusal-of .result) (a .buffer .now) (c .before .before .write-refusal .last .0) (c .before .before .write-refusal .result) (told .1) (c .before .before .before .refusal-of .ensures) (c .before .before .write-refusal .kept .0) (c .before .before .write-refusal .ensures)
 
 array-share-prefix-z : tie.Need-array-share-prefix-z
 array-share-prefix-z c =
     let call = c .before .before .before .before .before in
-    omega (arith, start-of call .pre .2, places-size call)
+    omega (arith, start-of call .pre .0 .axes .1, places-size call)
 
 slice-aggregate-write-plan : tie.Need-slice-aggregate-write-plan
 slice-aggregate-write-plan c = sym (lent-size (c .before .before .before .before .before .before))
@@ -181,7 +180,7 @@ slice-aggregate-write-plan c = sym (lent-size (c .before .before .before .before
 write-plan-requires : tie.Need-write-plan-requires
 write-plan-requires c κs =
     let call = c .before .before .before .before .before .before in
-    omega (arith, lent-size call, start-of call .pre .2, start-of call .pre .6)
+    omega (arith, lent-size call, start-of call .pre .0 .axes .1, start-of call .pre .2)
 
 same-length-2 : tie.Need-same-length-2
 same-length-2 c = search needs
@@ -190,7 +189,7 @@ returns-2 : tie.Need-returns-2
 returns-2 c =
     let line = c .before .before .before in
     let call = search-of line in
-    plan-holds (searched call) (found-of line) (start-of call .args .buffer .now) (line .write-plan .last .0) (line .write-plan .result) (c .if1 .taken) (first-line line)
+    plan-stands (searched call) (found-of line) (start-of call .args .buffer .now) (line .write-plan .last .0) (line .write-plan .result) (c .if1 .taken) (line .write-plan .kept .0) (first-line line)
 
 mul-size : tie.Need-mul-size
 mul-size c = search needs
@@ -198,7 +197,7 @@ mul-size c = search needs
 array-share-prefix-z-2 : tie.Need-array-share-prefix-z-2
 array-share-prefix-z-2 c =
     let call = search-of (c .before .before .before) in
-    omega (arith, start-of call .pre .2, places-size call)
+    omega (arith, start-of call .pre .0 .axes .1, places-size call)
 
 slice-aggregate-residue-map : tie.Need-slice-aggregate-residue-map
 slice-aggregate-residue-map c = sym (lent-size (search-of (c .before .before .before .before)))
@@ -216,7 +215,7 @@ array-share-prefix-pairs : tie.Need-array-share-prefix-pairs
 array-share-prefix-pairs c =
     let map-call = c .before .before in
     let s = entry map-call in
-    omega (arith, s .pre .4, length-front many (pairs-of map-call) (2 * s .args .m) (map-kept map-call))
+    omega (arith, s .pre .0 .rows .1, length-front many (pairs-of map-call) (2 * s .args .m) (map-kept map-call))
 
 slice-aggregate-write-map : tie.Need-slice-aggregate-write-map
 slice-aggregate-write-map c = sym (lent-pairs-size (c .before .before .before))
@@ -228,7 +227,7 @@ write-map-requires c κs =
     let call = search-of line in
     let s = start-of call in
     let end = first-line-end (searched call) (found-of line) (s .args .buffer .now) (line .write-plan .last .0) (line .write-plan .result) (first-line line) in
-    (lent-pairs-size map-call, omega (arith, end, s .pre .4, s .pre .6, line .write-plan .kept .0))
+    (lent-pairs-size map-call, omega (arith, end, s .pre .0 .rows .1, s .pre .2, line .write-plan .kept .0))
 
 same-length-3 : tie.Need-same-length-3
 same-length-3 c = search needs
@@ -238,8 +237,8 @@ returns-3 c =
     let written = c .before .before in
     let map-call = written .before .before .before .before in
     let line = line-of map-call in
-    map-holds (searched (search-of line)) (found-of line) (map-call .before .before .before .if1 .left) (lent-pairs map-call) (entry map-call .args .buffer .now) (line .write-plan .last .0) (written .write-map .last .0)
-    (line .write-plan .result) (written .write-map .result) (map-of map-call) (first-line line) (written .write-map .ensures)
+    map-stands (searched (search-of line)) (found-of line) (map-call .before .before .before .if1 .left) (lent-pairs map-call) (entry map-call .args .buffer .now) (line .write-plan .last .0) (written .write-map .last .0)
+    (line .write-plan .result) (written .write-map .result) (map-of map-call) (written .write-map .kept .0 ∙ line .write-plan .kept .0) (first-line line) (written .write-map .ensures)
 
 pub answer-request-spec : {M : Type 1} → statement M
 answer-request-spec =

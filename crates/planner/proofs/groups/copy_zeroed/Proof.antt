@@ -11,8 +11,8 @@ use native.Mathlib.Omega.{arith}
 use lib.IntN.{pos}
 use lib.ListN.{length, length-set}
 use lib.Seq.{paste, paste-zero, paste-suc}
-use Rattle.rank1.proofs.GroupLaws.{zeroAfter}
-use Rattle.planner.proofs.GroupSteps.{zeroed-length}
+use Rattle.rank1.specs.Axes.{zeroAfter}
+use Rattle.planner.proofs.groups.GroupSteps.{zeroed-length}
 use borrow.Author.Needs.{needs}
 use Rattle.planner.proofs.groups.copy_zeroed.Statement.{statement}
 use Rattle.planner.proofs.groups.copy_zeroed.Tie as tie

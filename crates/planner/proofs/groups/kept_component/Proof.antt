@@ -3,7 +3,7 @@ use mathlib.Core.Path.{sym, _∙_}
 use native.Mathlib.Omega.{arith}
 use mir.Facts.{toZ-ofZ}
 use borrow.Author.Needs.{sfits-of}
-use Rattle.planner.proofs.GroupSteps.{zeroed-before, zeroed-after}
+use Rattle.planner.proofs.groups.GroupSteps.{zeroed-before, zeroed-after}
 use borrow.Author.Needs.{needs}
 use Rattle.planner.proofs.groups.kept_component.Statement.{statement}
 use Rattle.planner.proofs.groups.kept_component.Tie as tie

@@ -10,7 +10,7 @@ use mir.Val.{toZ, ofZ}
 use mir.Facts.{toZ-ofZ}
 use borrow.Author.Needs.{sfits-of}
 use Rattle.rank1.specs.Tests.{sameRow}
-use Rattle.planner.proofs.GroupSteps.{same-more, same-found, same-none}
+use Rattle.planner.proofs.groups.GroupSteps.{same-more, same-found, same-none}
 use borrow.Author.Needs.{needs}
 use Rattle.planner.proofs.groups.same_later.Statement.{statement}
 use Rattle.planner.proofs.groups.same_later.Tie as tie

@@ -6,7 +6,7 @@ use native.Mathlib.Omega.{arith}
 use lib.ListN.{length}
 use Rattle.rank1.specs.Index.{indexList}
 use Rattle.planner.specs.Stage.{Grouping}
-use Rattle.planner.proofs.GroupSteps.{groups-none, groups-all, no-groups}
+use Rattle.planner.proofs.groups.GroupSteps.{groups-none, groups-all, no-groups}
 use borrow.Author.Needs.{needs}
 use Rattle.planner.proofs.groups.set_groups.Statement.{statement}
 use Rattle.planner.proofs.groups.set_groups.Tie as tie

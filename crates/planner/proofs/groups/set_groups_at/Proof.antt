@@ -7,7 +7,7 @@ use native.Mathlib.Omega.{arith}
 use lib.ListN.{length, length-set}
 use Rattle.rank1.specs.Index.{rowCount, indexList}
 use Rattle.planner.specs.Stage.{Grouping}
-use Rattle.planner.proofs.GroupSteps.{groups-next}
+use Rattle.planner.proofs.groups.GroupSteps.{groups-next}
 use borrow.Author.Needs.{needs}
 use Rattle.planner.proofs.groups.set_groups_at.Statement.{statement}
 use Rattle.planner.proofs.groups.set_groups_at.Tie as tie

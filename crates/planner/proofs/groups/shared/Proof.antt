@@ -1,8 +1,8 @@
 -- `planner::groups::shared` reads no place outside its rows. Measure: the rows left.
 use Prim.Native.Nat.{_≤_, _-_}
 use native.Mathlib.Omega.{arith}
-use Rattle.planner.proofs.SwapSteps.{row-inside}
 use borrow.Author.Needs.{needs}
+use Rattle.rank1.proofs.IndexLaws.{row-inside}
 use Rattle.planner.proofs.groups.shared.Statement.{statement}
 use Rattle.planner.proofs.groups.shared.Tie as tie
 

@@ -4,8 +4,8 @@ use native.Mathlib.Nat.{div-le-self}
 use native.Mathlib.Omega.{arith}
 use lib.ListN.{length}
 use Rattle.rank1.specs.Index.{rowCount}
-use Rattle.planner.proofs.SwapSteps.{row-inside}
 use borrow.Author.Needs.{needs}
+use Rattle.rank1.proofs.IndexLaws.{row-inside}
 use Rattle.planner.proofs.groups.stands_zeroed.Statement.{statement}
 use Rattle.planner.proofs.groups.stands_zeroed.Tie as tie
 

@@ -2,8 +2,8 @@
 use native.Mathlib.Nat.{div-le-self}
 use native.Mathlib.Omega.{arith}
 use lib.ListN.{length}
-use Rattle.planner.proofs.SwapSteps.{row-inside}
 use borrow.Author.Needs.{needs}
+use Rattle.rank1.proofs.IndexLaws.{row-inside}
 use Rattle.planner.proofs.groups.worth.Statement.{statement}
 use Rattle.planner.proofs.groups.worth.Tie as tie
 

@@ -9,8 +9,8 @@ use lib.ListN.{length, getD}
 use Rattle.rank1.specs.Residue.{residue}
 use Rattle.rank1.proofs.ResidueLaws.{residue-lt}
 use Rattle.planner.specs.Inner.{place, RowReady}
-use Rattle.planner.proofs.ProductLaws.{component-small}
-use Rattle.planner.proofs.MirrorResidues.{bits-zero, bits-other, minus-fits, minus-is, minus-small, Doubling, doubling-start, doubling-half, doubling-below, doubling-zero, doubling-other, doubling-end, turned-product}
+use Rattle.planner.proofs.products.ProductLaws.{component-small}
+use Rattle.planner.proofs.mirrors.MirrorResidues.{bits-zero, bits-other, minus-fits, minus-is, minus-small, Doubling, doubling-start, doubling-half, doubling-below, doubling-zero, doubling-other, doubling-end, turned-product}
 use Rattle.planner.proofs.mirrors.mirror_residues.Statement.{statement}
 use Rattle.planner.proofs.mirrors.mirror_residues.Tie as tie
 
@@ -21,9 +21,7 @@ abbrev μ-loop : tie.MeasureT-loop
 μ-loop row z n products out₀ count₀ j₀ out count j = j
 
 row-residue-requires : tie.Need-row-residue-requires Inv-loop μ-loop
-row-residue-requires c κs =
-    let ready = c .before .before .before .pre .0 in
-    ((ready .short, omega (arith, ready .short, ready .few-axes), ready .modulus), ready .prepared)
+row-residue-requires c κs = c .before .before .before .pre .0
 
 slice-write-out : tie.Need-slice-write-out Inv-loop μ-loop
 slice-write-out c = omega (arith, c .before .before .before .before .pre .1)

@@ -7,8 +7,8 @@ use borrow.Author.Needs.{needs, sfits-of}
 use lib.Count.{ones}
 use lib.IntN.{pos}
 use lib.ListN.{length, getD, drop, drop-of-length-le}
-use Rattle.rank1.proofs.MirrorLaws.{nonzeros}
-use Rattle.planner.proofs.MirrorResidues.{bits-zero, bits-other, nonzeros-zero, nonzeros-other, mask-ones, mask-lt, pow-step}
+use Rattle.rank1.specs.Index.{nonzeros}
+use Rattle.planner.proofs.mirrors.MirrorResidues.{bits-zero, bits-other, nonzeros-zero, nonzeros-other, mask-ones, mask-lt, pow-step}
 use Rattle.planner.proofs.mirrors.nonzero_mask.Statement.{statement}
 use Rattle.planner.proofs.mirrors.nonzero_mask.Tie as tie
 

@@ -3,7 +3,7 @@ use mathlib.Core.Path.{_≡_, sym, subst}
 use Prim.Native.Nat.{ℕ, _+_, _-_, _<_, _%_}
 use native.Mathlib.Omega.{arith}
 use lib.ListN.{getD}
-use Rattle.planner.proofs.MirrorResidues.{Repeated, repeated-none, repeated-at, repeated-more}
+use Rattle.planner.proofs.mirrors.MirrorResidues.{Repeated, repeated-none, repeated-at, repeated-more}
 use Rattle.planner.proofs.mirrors.reflect.Statement.{statement}
 use Rattle.planner.proofs.mirrors.reflect.Tie as tie
 

@@ -1,4 +1,4 @@
--- `coordinate_of`: the residue, or the smaller of 2r and 2n - 2r.
+-- `points::coordinate_of` meets its contract: the residue, or the smaller of 2r and 2n - 2r.
 use mathlib.Core.Path.{_≡_, sym, ap, _∙_}
 use mathlib.Core.Bool.{Bool, cond}
 use Prim.Native.Nat.{ℕ, _*_, _-_, _≤_, _<_, min}

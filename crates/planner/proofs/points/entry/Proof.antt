@@ -1,6 +1,6 @@
--- `entry`: the residue of i × x by one division, and what stands for it.
-use mathlib.Core.Path.{_≡_, sym, ap, _∙_}
-use Prim.Native.Nat.{ℕ, _*_, _%_, _<_, _≤_}
+-- `points::entry` meets its contract: the residue of i × x by one division (`mod-lt`), and what stands for it.
+use mathlib.Core.Path.{ap, _∙_}
+use Prim.Native.Nat.{_*_, _%_, _<_}
 use native.Mathlib.Nat.{mod-lt, mul-le-mul}
 use native.Mathlib.Omega.{arith}
 use Rattle.rank1.specs.Points.{coordinate}
@@ -8,25 +8,25 @@ use borrow.Author.Needs.{needs}
 use Rattle.planner.proofs.points.entry.Statement.{statement}
 use Rattle.planner.proofs.points.entry.Tie as tie
 
-wide-requires : tie.Need-wide-requires
-wide-requires c κs = search needs
+wide32-requires : tie.Need-wide32-requires
+wide32-requires c κs = search needs
 
-wide-requires-2 : tie.Need-wide-requires-2
-wide-requires-2 c κs = search needs
+wide32-requires-2 : tie.Need-wide32-requires-2
+wide32-requires-2 c κs = search needs
 
 mul-r : tie.Need-mul-r
 mul-r c =
-    omega (arith, mul-le-mul {n₁ = c .before .wide .result} {m₁ = c .wide2 .result} {n₂ = 8192} {m₂ = 8192} (omega arith) (omega arith))
+    omega (arith, mul-le-mul {n₁ = c .before .wide32 .result} {m₁ = c .wide322 .result} {n₂ = 8192} {m₂ = 8192} (omega arith) (omega arith))
 
-wide-requires-3 : tie.Need-wide-requires-3
-wide-requires-3 c κs = search needs
+wide32-requires-3 : tie.Need-wide32-requires-3
+wide32-requires-3 c κs = search needs
 
 rem-r : tie.Need-rem-r
 rem-r c = search needs
 
 -- the remainder is below n
-remainder : (c : tie.After-wide3) → c .before .before .wide .result * c .before .wide2 .result % c .wide3 .result < c .wide3 .result
-remainder c = mod-lt (c .before .before .wide .result * c .before .wide2 .result) (omega arith)
+remainder : (c : tie.After-wide323) → c .before .before .wide32 .result * c .before .wide322 .result % c .wide323 .result < c .wide323 .result
+remainder c = mod-lt (c .before .before .wide32 .result * c .before .wide322 .result) (omega arith)
 
 cast-coordinate-of : tie.Need-cast-coordinate-of
 cast-coordinate-of c =
@@ -44,10 +44,10 @@ pub entry-spec : {M : Type 1} → statement M
 entry-spec =
     tie.close
     (tie.spec
-    wide-requires
-    wide-requires-2
+    wide32-requires
+    wide32-requires-2
     mul-r
-    wide-requires-3
+    wide32-requires-3
     rem-r
     cast-coordinate-of
     coordinate-of-requires

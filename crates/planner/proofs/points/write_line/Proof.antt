@@ -1,11 +1,12 @@
--- `write_line`: the first j components of the line stand behind the first `at` numbers.
-use mathlib.Core.Path.{_≡_, refl, sym, ap, _∙_}
-use mathlib.Core.List.{List, map, _++_}
-use Prim.Native.Nat.{ℕ, _+_, _-_, _≤_, _<_}
+-- `points::write_line` meets its contract. The invariant: the first j components of the line stand behind the first `at` numbers
+-- (`write-more`).
+use mathlib.Core.Path.{_≡_, refl, sym, _∙_}
+use mathlib.Core.List.{_++_}
+use Prim.Native.Nat.{_+_, _-_, _≤_}
 use native.Mathlib.Omega.{arith}
 use lib.ListN.{length, take, length-set}
 use Rattle.rank1.specs.Points.{pointLine}
-use Rattle.planner.proofs.PointSteps.{line-length, line-at}
+use Rattle.planner.proofs.points.PointSteps.{line-length, line-at}
 use Rattle.planner.proofs.Writing.{write-none, write-more, write-all}
 use borrow.Author.Needs.{needs}
 use Rattle.planner.proofs.points.write_line.Statement.{statement}

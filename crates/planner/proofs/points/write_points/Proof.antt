@@ -1,15 +1,16 @@
--- `write_points`: the first i lines stand at the front.
+-- `points::write_points` meets its contract. The invariant: the first i lines stand at the front (`points-more`).
 use mathlib.Core.Path.{_≡_, refl, sym, ap, subst, _∙_}
 use mathlib.Core.List.{_++_}
-use Prim.Native.Nat.{ℕ, _+_, _-_, _*_, _≤_, _<_}
-use native.Mathlib.Nat.{zero-mul, suc-mul}
+use Prim.Native.Nat.{ℕ, _+_, _-_, _*_, _≤_}
+use native.Mathlib.Nat.{zero-mul, suc-mul, le-refl}
 use native.Mathlib.Numerals.{add-one}
 use native.Mathlib.Omega.{arith}
 use lib.ListN.{length, take}
 use lib.Seq.{take-all}
 use Rattle.rank1.specs.Tests.{upTo}
 use Rattle.rank1.specs.Points.{pointLine, pointLines}
-use Rattle.planner.proofs.PointSteps.{points-more, line-fits}
+use Rattle.rank1.proofs.IndexLaws.{row-fits}
+use Rattle.planner.proofs.points.PointSteps.{points-more}
 use borrow.Author.Needs.{needs}
 use Rattle.planner.proofs.points.write_points.Statement.{statement}
 use Rattle.planner.proofs.points.write_points.Tie as tie
@@ -30,14 +31,14 @@ write-line-requires : tie.Need-write-line-requires Inv-loop μ-loop
 write-line-requires c κs =
     let s = c .before .before .before .before .before in
     let v = c .before .before .loop .inv in (
-      (c .before .loop-test .taken, s .pre .1, omega (arith, s .pre .2 .size, line-fits (s .args .n) (s .args .d) (c .before .before .loop .i) (c .before .loop-test .taken))),
+      (c .before .loop-test .taken, s .pre .1, omega (arith, s .pre .2 .size, row-fits (s .args .d) (s .args .n) (c .before .before .loop .i) (s .args .n * s .args .d) (c .before .loop-test .taken) (le-refl (s .args .n * s .args .d)))),
       λ j l. s .pre .2 .below j (omega (arith, s .pre .2 .size)),
     )
 
 add-at : tie.Need-add-at Inv-loop μ-loop
 add-at c =
     let s = c .before .before .before .before .before .before .before .before in
-    omega (arith, line-fits (s .args .n) (s .args .d) (c .before .before .before .before .before .loop .i) (c .before .before .before .before .loop-test .taken), s .good)
+    omega (arith, row-fits (s .args .d) (s .args .n) (c .before .before .before .before .before .loop .i) (s .args .n * s .args .d) (c .before .before .before .before .loop-test .taken) (le-refl (s .args .n * s .args .d)), s .good)
 
 add-i : tie.Need-add-i Inv-loop μ-loop
 add-i c = search needs

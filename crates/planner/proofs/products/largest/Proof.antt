@@ -5,7 +5,7 @@ use mathlib.Core.Logic.{⊎-elim}
 use native.Mathlib.Omega.{arith}
 use lib.IntN.{pos, natAbs}
 use lib.ListN.{length, getD}
-use Rattle.planner.proofs.ProductLaws.{read-back, covered-all, covered-more}
+use Rattle.planner.proofs.products.ProductLaws.{read-back, covered-all, covered-more}
 use borrow.Author.Needs.{needs}
 use Rattle.planner.proofs.products.largest.Statement.{statement}
 use Rattle.planner.proofs.products.largest.Tie as tie

@@ -4,7 +4,7 @@ use Prim.Native.Nat.{ℕ, _-_, _%_, _<_}
 use native.Mathlib.Nat.{mod-eq-of-lt}
 use native.Mathlib.Omega.{arith}
 use borrow.Author.Needs.{needs}
-use Rattle.planner.proofs.ProductLaws.{negative-zero}
+use Rattle.planner.proofs.products.ProductLaws.{negative-zero}
 use Rattle.planner.proofs.products.negative.Statement.{statement}
 use Rattle.planner.proofs.products.negative.Tie as tie
 

@@ -2,7 +2,7 @@
 use mathlib.Core.Path.{refl}
 use native.Mathlib.Omega.{arith}
 use mir.Facts.{toZ-ofZ}
-use Rattle.planner.proofs.ProductLaws.{read-back, place-is, place-lt, place-fits}
+use Rattle.planner.proofs.products.ProductLaws.{read-back, place-is, place-lt, place-fits}
 use Rattle.planner.proofs.products.place_of.Statement.{statement}
 use Rattle.planner.proofs.products.place_of.Tie as tie
 

@@ -6,7 +6,7 @@ use native.Mathlib.Omega.{arith}
 use lib.ListN.{length, take}
 use lib.Seq.{take-all}
 use Rattle.planner.specs.Inner.{Products}
-use Rattle.planner.proofs.ProductLaws.{products-none, set-products}
+use Rattle.planner.proofs.products.ProductLaws.{products-none, set-products}
 use borrow.Author.Needs.{needs}
 use Rattle.planner.proofs.products.prepare.Statement.{statement}
 use Rattle.planner.proofs.products.prepare.Tie as tie

@@ -4,7 +4,7 @@ use mathlib.Core.Path.{_≡_, _∙_}
 use Prim.Native.Nat.{_+_, _-_, _*_, _%_, _<_, _≤_, zero-le}
 use native.Mathlib.Omega.{arith}
 use lib.ListN.{set, length-set}
-use Rattle.planner.proofs.ProductLaws.{Setting, set-none, set-more, set-all, next-multiple, first-multiple}
+use Rattle.planner.proofs.products.ProductLaws.{Setting, set-none, set-more, set-all, next-multiple, first-multiple}
 use borrow.Author.Needs.{needs}
 use Rattle.planner.proofs.products.set_axis.Statement.{statement}
 use Rattle.planner.proofs.products.set_axis.Tie as tie

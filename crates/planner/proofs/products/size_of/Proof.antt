@@ -5,7 +5,7 @@ use borrow.Author.Needs.{needs}
 use lib.IntN.{pos, natAbs}
 use mir.Syntax.{w16}
 use mir.Val.{toZ, ofZ}
-use Rattle.planner.proofs.ProductLaws.{small-fits, read-back, opposite, itself}
+use Rattle.planner.proofs.products.ProductLaws.{small-fits, read-back, opposite, itself}
 use Rattle.planner.proofs.products.size_of.Statement.{statement}
 use Rattle.planner.proofs.products.size_of.Tie as tie
 use Rattle.planner.proofs.products.size_of.Reads as reads

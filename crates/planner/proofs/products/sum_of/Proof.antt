@@ -4,7 +4,7 @@ use Prim.Native.Nat.{_+_}
 use native.Mathlib.Nat.{mod-eq-of-lt}
 use native.Mathlib.Omega.{arith}
 use borrow.Author.Needs.{needs}
-use Rattle.planner.proofs.ProductLaws.{sum-over}
+use Rattle.planner.proofs.products.ProductLaws.{sum-over}
 use Rattle.planner.proofs.products.sum_of.Statement.{statement}
 use Rattle.planner.proofs.products.sum_of.Tie as tie
 

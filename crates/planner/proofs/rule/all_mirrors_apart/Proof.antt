@@ -1,20 +1,20 @@
--- `planner::rule::all_mirrors_apart`. Both loops keep that the rule holds just where the residues left to pass are different and
+-- `rule::all_mirrors_apart` meets its contract. Both loops keep that the rule holds just where the residues left to pass are different and
 -- free in the table (TakenLaws): the rows left for the outer loop, the mirrors of row i left besides for the inner one. A clash
--- refutes the rule, and at the end none is left. Assumes nothing.
+-- refutes the rule, and at the end none is left.
 use mathlib.Core.Path.{_≡_, refl, sym, _∙_, subst}
 use mathlib.Core.Bool.{true, true≢false}
 use mathlib.Core.Logic.{_↔_}
 use mathlib.Core.List.{List, map}
 use Prim.Native.Nat.{ℕ, _+_, _-_, _≤_, _<_}
 use native.Mathlib.Omega.{arith}
-use lib.IntN.{ℤ, pos}
+use lib.IntN.{pos}
 use lib.ListN.{length, length-set}
-use Rattle.rank1.specs.Index.{rowCount, indexList}
+use Rattle.rank1.specs.Index.{indexList}
 use Rattle.rank1.specs.Rule.{PlanA}
-use Rattle.rank1.proofs.IndexLaws.{row-fits}
-use Rattle.planner.specs.Inner.{RowReady, Clear}
-use Rattle.planner.proofs.TakenLaws.{Free, Next, rowsLeft, mirrorsLeft, rows-start, row-begins, mirror-next, row-ends, rows-end, taken-more, taken-clash, taken-all}
-use Rattle.planner.proofs.MirrorResidues.{row-ready}
+use Rattle.rank1.proofs.IndexLaws.{row-inside}
+use Rattle.planner.specs.Inner.{Clear}
+use Rattle.planner.proofs.rule.TakenLaws.{Untaken, Next, rowsLeft, mirrorsLeft, rows-start, row-begins, mirror-next, row-ends, rows-end, taken-more, taken-clash, taken-all}
+use Rattle.planner.proofs.mirrors.MirrorResidues.{row-ready}
 use borrow.Author.Needs.{needs}
 use Rattle.planner.proofs.rule.all_mirrors_apart.Statement.{statement}
 use Rattle.planner.proofs.rule.all_mirrors_apart.Tie as tie
@@ -22,7 +22,7 @@ use Rattle.planner.proofs.rule.all_mirrors_apart.Tie as tie
 abbrev Inv-loop : tie.InvT-loop
 Inv-loop d rows n z products taken₀ residues apart₀ i t₀ i-end t-end taken apart t =
     (t ≤ t-end) × (apart ≡ true) × (length taken ≡ length taken₀)
-    × (PlanA (indexList d rows) n (map pos z) ↔ Free taken (mirrorsLeft d rows n z i t))
+    × (PlanA (indexList d rows) n (map pos z) ↔ Untaken taken (mirrorsLeft d rows n z i t))
 
 abbrev μ-loop : tie.MeasureT-loop
 μ-loop d rows n z products taken₀ residues apart₀ i t₀ i-end t-end taken apart t = t-end - t
@@ -30,7 +30,7 @@ abbrev μ-loop : tie.MeasureT-loop
 abbrev Inv-rows : tie.InvT-rows
 Inv-rows d rows n z products taken₀ residues₀ apart₀ i₀ i-end taken residues apart i =
     (i ≤ i-end) × (apart ≡ true) × (length residues ≡ 64) × (length taken ≡ length taken₀)
-    × (PlanA (indexList d rows) n (map pos z) ↔ Free taken (rowsLeft d rows n z i))
+    × (PlanA (indexList d rows) n (map pos z) ↔ Untaken taken (rowsLeft d rows n z i))
 
 abbrev μ-rows : tie.MeasureT-rows
 μ-rows d rows n z products taken₀ residues₀ apart₀ i₀ i-end taken residues apart i = i-end - i
@@ -89,7 +89,7 @@ row-at-requires : tie.Need-row-at-requires Inv-loop μ-loop Inv-rows μ-rows
 row-at-requires c κs =
     let st = start (c .before) in
     let a = st .args in
-    omega (arith, row-fits (a .d) (rowCount (a .d) (a .rows .now)) (c .before .rows .i) (length (a .rows .now)) (c .rows-test .taken) (omega (arith, st .pre .0 .whole)))
+    row-inside (a .d) (c .before .rows .i) (a .rows .now) (c .rows-test .taken) (st .pre .0 .whole)
 
 slice-aggregate-mirror-residues :
     tie.Need-slice-aggregate-mirror-residues Inv-loop μ-loop Inv-rows μ-rows
@@ -99,11 +99,8 @@ mirror-residues-requires : tie.Need-mirror-residues-requires Inv-loop μ-loop In
 mirror-residues-requires c κs =
     let at = c .before .before .before in
     let st = start at in
-    let a = st .args in (
-      subst (λ (k : List ℤ). RowReady (a .n) (a .z .now) k (a .products .now)) (sym (c .before .row-at .ensures .0))
-          (row-ready (a .d) (a .rows .now) (a .n) (a .z .now) (a .products .now) (at .rows .i) (st .pre .0) (c .before .before .rows-test .taken)),
-      at .rows .inv .2,
-    )
+    let a = st .args in
+    (row-ready (a .d) (a .rows .now) (a .n) (a .z .now) (a .products .now) (at .rows .i) (st .pre .0) (c .before .before .rows-test .taken) (c .before .row-at .result .now) (c .before .row-at .ensures .0), at .rows .inv .2)
 
 mirror-count-requires : tie.Need-mirror-count-requires Inv-loop μ-loop Inv-rows μ-rows
 mirror-count-requires c κs = search needs

@@ -1,4 +1,4 @@
--- `planner::rule::clashes` meets its contract: each way through the code is one of the test's, by what the comparisons say.
+-- `rule::clashes` meets its contract: each way through the code is one of the test's, by what the comparisons say.
 use borrow.Author.Needs.{needs}
 use borrow.Author.Tests.{eq-eqb, ne-eqb}
 use Rattle.planner.proofs.rule.clashes.Statement.{statement}

@@ -1,10 +1,10 @@
--- `planner::rule::clear` meets its contract: the entries passed are 0.
+-- `rule::clear` meets its contract: the entries passed are 0.
 use mathlib.Core.Path.{_≡_}
 use Prim.Native.Nat.{_-_, _≤_}
 use native.Mathlib.Omega.{arith}
 use lib.ListN.{length, length-set}
 use Rattle.planner.specs.Inner.{Clear}
-use Rattle.planner.proofs.OwnerLaws.{clear-more}
+use Rattle.planner.proofs.Writing.{clear-more}
 use borrow.Author.Needs.{needs}
 use Rattle.planner.proofs.rule.clear.Statement.{statement}
 use Rattle.planner.proofs.rule.clear.Tie as tie
@@ -31,7 +31,7 @@ loop-less : tie.Need-loop-less Inv-loop μ-loop
 loop-less c = search needs
 
 loop-again : tie.Need-loop-again Inv-loop μ-loop
-loop-again c = (omega arith, simp length-set (omega arith), clear-more (c .before .loop .x) (c .before .loop .table) (omega arith) (c .before .loop .inv .2))
+loop-again c = (omega arith, simp length-set (omega arith), clear-more 0 (c .before .loop .table) (c .before .loop .x) (omega arith) (c .before .loop .inv .2))
 
 same-length : tie.Need-same-length Inv-loop μ-loop
 same-length c = search needs

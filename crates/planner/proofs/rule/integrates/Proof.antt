@@ -1,4 +1,4 @@
--- `planner::rule::integrates` meets its contract: every row passed is the zero row or has a residue other than 0.
+-- `rule::integrates` meets its contract: every row passed is the zero row or has a residue other than 0.
 use mathlib.Core.Path.{sym, _∙_}
 use mathlib.Core.Logic.{⊎-elim}
 use mathlib.Core.List.{map}
@@ -7,10 +7,10 @@ use native.Mathlib.Omega.{arith}
 use borrow.Author.Count.{below-more}
 use lib.IntN.{pos}
 use Rattle.rank1.specs.Index.{rowCount, indexList}
-use Rattle.rank1.proofs.IndexLaws.{rows-length}
-use Rattle.planner.proofs.OwnerLaws.{decides-yes, decides-no}
-use Rattle.planner.proofs.MirrorResidues.{row-ready}
-use Rattle.planner.proofs.RuleIndex.{RowIntegrates, integrates-rows, mask-none, mask-some, row-room, row-integrates, row-breaks}
+use Rattle.rank1.proofs.IndexLaws.{rows-length, row-inside}
+use Rattle.planner.proofs.rule.OwnerLaws.{decides-yes, decides-no}
+use Rattle.planner.proofs.mirrors.MirrorResidues.{row-ready}
+use Rattle.planner.proofs.rule.RuleIndex.{RowIntegrates, integrates-rows, mask-none, mask-some, row-integrates, row-breaks}
 use borrow.Author.Needs.{needs}
 use Rattle.planner.proofs.rule.integrates.Statement.{statement}
 use Rattle.planner.proofs.rule.integrates.Tie as tie
@@ -36,7 +36,7 @@ row-at-requires : tie.Need-row-at-requires Inv-loop μ-loop
 row-at-requires c κs =
     let s = start (c .before) in
     let a = s .args in
-    row-room (a .d) (a .rows .now) (a .n) (a .z .now) (a .products .now) (c .before .loop .i) (s .pre) (c .loop-test .taken)
+    row-inside (a .d) (c .before .loop .i) (a .rows .now) (c .loop-test .taken) (s .pre .whole)
 
 nonzero-mask-requires : tie.Need-nonzero-mask-requires Inv-loop μ-loop
 nonzero-mask-requires c κs = search needs
@@ -44,10 +44,10 @@ nonzero-mask-requires c κs = search needs
 row-residue-requires : tie.Need-row-residue-requires Inv-loop μ-loop
 row-residue-requires c κs =
     let k = c .before .before .row-at in
-    let s = start (c .before .before .before .before) in
+    let h = c .before .before .before .before in
+    let s = start h in
     let a = s .args in
-    let r = row-ready (a .d) (a .rows .now) (a .n) (a .z .now) (a .products .now) (c .before .before .before .before .loop .i) (s .pre) (c .before .before .before .loop-test .taken) in
-    ((omega (arith, k .ensures .1, s .pre .short), omega (arith, s .pre .short, s .pre .few-axes), r .modulus), rw (k .ensures .0) (r .prepared))
+    row-ready (a .d) (a .rows .now) (a .n) (a .z .now) (a .products .now) (h .loop .i) (s .pre) (c .before .before .before .loop-test .taken) (k .result .now) (k .ensures .0)
 
 returns : tie.Need-returns Inv-loop μ-loop
 returns c =
@@ -56,7 +56,7 @@ returns c =
     let s = start h in
     let a = s .args in
     decides-no
-    (row-breaks (a .d) (a .rows .now) (a .n) (a .z .now) (a .products .now) (h .loop .i) (s .pre) (c .before .before .before .before .before .loop-test .taken) (k .result .now) (k .ensures .0)
+    (row-breaks (a .d) (a .rows .now) (a .n) (a .z .now) (h .loop .i) (c .before .before .before .before .before .loop-test .taken) (k .result .now) (k .ensures .0)
     (mask-some (k .result .now) (c .before .before .before .nonzero-mask .result) (c .before .before .before .nonzero-mask .ensures .0) (c .before .before .if1 .taken))
     (sym (c .before .row-residue .ensures .0) ∙ c .if2 .taken))
 
@@ -75,7 +75,7 @@ loop-again c =
     let a = s .args in (
       omega arith,
       below-more (RowIntegrates (indexList (a .d) (a .rows .now)) (a .n) (map pos (a .z .now))) (h .loop .i) (h .loop .inv .1)
-          (row-integrates (a .d) (a .rows .now) (a .n) (a .z .now) (a .products .now) (h .loop .i) (s .pre) (c .before .before .before .loop-test .taken) (k .result .now) (k .ensures .0)
+          (row-integrates (a .d) (a .rows .now) (a .n) (a .z .now) (h .loop .i) (c .before .before .before .loop-test .taken) (k .result .now) (k .ensures .0)
           (λ some none. ⊎-elim (λ w. w .2 .left (w .1 .ensures .0 ∙ none)) (λ w. some (mask-none (k .result .now) (m .result) (m .ensures .0) (w .left))) (c .if1 .came))),
     )
 

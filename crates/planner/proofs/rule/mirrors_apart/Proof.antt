@@ -1,4 +1,4 @@
--- `planner::rule::mirrors_apart` meets its contract: no mirror passed, from number 1 on, has the residue of a row that the plan keeps
+-- `rule::mirrors_apart` meets its contract: no mirror passed, from number 1 on, has the residue of a row that the plan keeps
 -- apart from its own.
 use mathlib.Core.Path.{_≡_, sym, ap, _∙_}
 use mathlib.Core.Bool.{true}
@@ -10,10 +10,11 @@ use lib.IntN.{ℤ, pos}
 use lib.ListN.{length, getD}
 use Rattle.rank1.specs.Residue.{residueAt}
 use Rattle.rank1.specs.Index.{mirrors, indexList}
+use Rattle.rank1.proofs.IndexLaws.{row-inside}
 use Rattle.planner.specs.Inner.{clash}
-use Rattle.planner.proofs.OwnerLaws.{Free}
-use Rattle.planner.proofs.MirrorResidues.{row-ready}
-use Rattle.planner.proofs.RuleIndex.{row, rowResidue, mirror, MirrorsFree, row-room, row-number, mirror-below, mirror-passes, mirror-fails, mirrors-hold, mirrors-break}
+use Rattle.planner.proofs.rule.OwnerLaws.{Unowned}
+use Rattle.planner.proofs.mirrors.MirrorResidues.{row-ready}
+use Rattle.planner.proofs.rule.RuleIndex.{row, rowResidue, mirror, MirrorsFree, row-number, mirror-passes, mirror-fails, mirrors-hold, mirrors-break, MirrorAt, mirror-at}
 use borrow.Author.Needs.{needs}
 use Rattle.planner.proofs.rule.mirrors_apart.Statement.{statement}
 use Rattle.planner.proofs.rule.mirrors_apart.Tie as tie
@@ -46,21 +47,17 @@ turn c = c .before .before .before .before .before .before .before
 abbrev out : tie.At-loop Inv-loop μ-loop Inv-rows μ-rows → List ℕ
 out c = c .before .before .before .mirror-residues .last .1 .1 .1 .1 .0
 
--- t is the number of a mirror
-inside : (c : tie.In-loop Inv-loop μ-loop Inv-rows μ-rows) → c .before .loop .t < length (mirrors (c .before .before .before .before .before .before .row-at .result .now))
-inside c = omega (arith, c .loop-test .taken, c .before .before .mirror-count .ensures .0)
-
--- its residue is below n
-below : (c : tie.In-loop Inv-loop μ-loop Inv-rows μ-rows) → getD (out (c .before)) (c .before .loop .t) 0 < start (turn (c .before)) .args .n
-below c =
+-- at place t stands the residue of mirror number t of row i
+here : (c : tie.In-loop Inv-loop μ-loop Inv-rows μ-rows) → let a = start (turn (c .before)) .args in MirrorAt (indexList (a .d) (a .rows .now)) (a .n) (a .z .now) (turn (c .before) .rows .i) (c .before .loop .t) (getD (out (c .before)) (c .before .loop .t) 0)
+here c =
     let h = c .before in
     let m = h .before .before .before in
     let r = turn h in
     let s = start r in
     let a = s .args in
     let k = m .before .before .row-at in
-    mirror-below (a .d) (a .rows .now) (a .n) (a .z .now) (a .products .now) (r .rows .i) (s .pre .0) (m .before .before .before .rows-test .taken) (k .result .now) (out h) (h .loop .t)
-    (k .ensures .0) (m .mirror-residues .ensures) (inside c)
+    mirror-at (a .d) (a .rows .now) (a .n) (a .z .now) (r .rows .i) (h .loop .t) (k .result .now) (out h) (s .pre .0 .modulus .low) (m .before .before .before .rows-test .taken)
+    (k .ensures .0) (m .mirror-residues .ensures) (omega (arith, c .loop-test .taken, h .before .mirror-count .ensures .0))
 
 -- the call says whether the owner of this residue forbids it
 forbids : (c : tie.After-clashes Inv-loop μ-loop Inv-rows μ-rows) → let h = c .before .before .before .before .before in c .clashes .result ≡ clash (start (turn h) .args .plan) (turn h .rows .i) (getD (start (turn h) .args .owners .now) (getD (out h) (h .loop .t) 0) 0)
@@ -80,7 +77,7 @@ row-at-requires : tie.Need-row-at-requires Inv-loop μ-loop Inv-rows μ-rows
 row-at-requires c κs =
     let s = start (c .before) in
     let a = s .args in
-    row-room (a .d) (a .rows .now) (a .n) (a .z .now) (a .products .now) (c .before .rows .i) (s .pre .0) (c .rows-test .taken)
+    row-inside (a .d) (c .before .rows .i) (a .rows .now) (c .rows-test .taken) (s .pre .0 .whole)
 
 slice-aggregate-mirror-residues :
     tie.Need-slice-aggregate-mirror-residues Inv-loop μ-loop Inv-rows μ-rows
@@ -91,7 +88,7 @@ mirror-residues-requires c κs =
     let r = c .before .before .before in
     let s = start r in
     let a = s .args in
-    (rw (c .before .row-at .ensures .0) (row-ready (a .d) (a .rows .now) (a .n) (a .z .now) (a .products .now) (r .rows .i) (s .pre .0) (c .before .before .rows-test .taken)), r .rows .inv .1)
+    (row-ready (a .d) (a .rows .now) (a .n) (a .z .now) (a .products .now) (r .rows .i) (s .pre .0) (c .before .before .rows-test .taken) (c .before .row-at .result .now) (c .before .row-at .ensures .0), r .rows .inv .1)
 
 mirror-count-requires : tie.Need-mirror-count-requires Inv-loop μ-loop Inv-rows μ-rows
 mirror-count-requires c κs = search needs
@@ -109,10 +106,10 @@ wide-requires : tie.Need-wide-requires Inv-loop μ-loop Inv-rows μ-rows
 wide-requires c κs = search needs
 
 mul-wide-2 : tie.Need-mul-wide-2 Inv-loop μ-loop Inv-rows μ-rows
-mul-wide-2 c = omega (arith, c .wide .ensures, below (c .before), start (turn (c .before .before)) .pre .0 .modulus .high)
+mul-wide-2 c = omega (arith, c .wide .ensures, here (c .before) .below, start (turn (c .before .before)) .pre .0 .modulus .high)
 
 shared-slice-read-wide : tie.Need-shared-slice-read-wide Inv-loop μ-loop Inv-rows μ-rows
-shared-slice-read-wide c = omega (arith, c .before .wide .ensures, below (c .before .before), start (turn (c .before .before .before)) .pre .1 .0)
+shared-slice-read-wide c = omega (arith, c .before .wide .ensures, here (c .before .before) .below, start (turn (c .before .before .before)) .pre .1 .0)
 
 wide-requires-2 : tie.Need-wide-requires-2 Inv-loop μ-loop Inv-rows μ-rows
 wide-requires-2 c κs = search needs
@@ -128,20 +125,18 @@ loop-less c = search needs
 
 loop-again : tie.Need-loop-again Inv-loop μ-loop Inv-rows μ-rows
 loop-again c =
-    let h = c .before .before .before .before .before .before in
-    let m = h .before .before .before in
+    let g = c .before .before .before .before .before in
+    let h = g .before in
     let r = turn h in
     let s = start r in
     let a = s .args in
-    let k = m .before .before .row-at in
     let ks = indexList (a .d) (a .rows .now) in (
       omega arith,
-      omega (arith, c .before .before .before .before .before .loop-test .taken),
+      omega (arith, g .loop-test .taken),
       h .loop .inv .2,
-      below-more (λ (t : ℕ). 1 ≤ t → Free (rowResidue ks (a .n) (map pos (a .z .now))) (a .plan) (length ks) (r .rows .i) (residueAt (a .n) (map pos (a .z .now)) (mirror ks (a .n) (map pos (a .z .now)) (r .rows .i) t)))
+      below-more (λ (t : ℕ). 1 ≤ t → Unowned (rowResidue ks (a .n) (map pos (a .z .now))) (a .plan) (length ks) (r .rows .i) (residueAt (a .n) (map pos (a .z .now)) (mirror ks (a .n) (map pos (a .z .now)) (r .rows .i) t)))
           (h .loop .t) (h .loop .inv .3)
-          (λ _. mirror-passes (a .d) (a .rows .now) (a .n) (a .z .now) (a .products .now) (r .rows .i) (s .pre .0) (m .before .before .before .rows-test .taken) (k .result .now) (out h) (h .loop .t)
-          (k .ensures .0) (m .mirror-residues .ensures) (inside (c .before .before .before .before .before)) (a .plan) (a .owners .now) (s .pre .1 .1 .1) (sym (forbids (c .before)) ∙ c .if1 .left)),
+          (λ _. mirror-passes (a .plan) (a .d) (a .rows .now) (a .n) (a .z .now) (a .owners .now) (s .pre .1 .1 .1) (r .rows .i) (h .loop .t) (getD (out h) (h .loop .t) 0) (here g) (sym (forbids (c .before)) ∙ c .if1 .left)),
     )
 
 add-i : tie.Need-add-i Inv-loop μ-loop Inv-rows μ-rows
@@ -159,7 +154,7 @@ rows-again c =
     let a = s .args in
     let k = m .before .before .row-at in
     let ks = indexList (a .d) (a .rows .now) in
-    let same = row-number (a .d) (a .rows .now) (a .n) (a .z .now) (a .products .now) (r .rows .i) (s .pre .0) (m .before .before .before .rows-test .taken) (k .result .now) (k .ensures .0) in (
+    let same = row-number (a .d) (a .rows .now) (r .rows .i) (m .before .before .before .rows-test .taken) (k .result .now) (k .ensures .0) in (
       omega arith,
       omega (arith, m .mirror-residues .kept .1 .1 .1 .1 .0, r .rows .inv .1),
       h .loop .inv .2,
@@ -178,15 +173,14 @@ returns c =
 
 returns-2 : tie.Need-returns-2 Inv-loop μ-loop Inv-rows μ-rows
 returns-2 c =
-    let h = c .before .before .before .before .before .before in
-    let m = h .before .before .before in
+    let g = c .before .before .before .before .before in
+    let h = g .before in
     let r = turn h in
     let s = start r in
     let a = s .args in
-    let k = m .before .before .row-at in
     mirrors-break (a .plan) (a .d) (a .rows .now) (a .n) (a .z .now) (a .products .now) (a .owners .now) (s .pre .0) (s .pre .1 .0 .0) (s .pre .1 .0 .1) (s .pre .1 .1 .0) (s .pre .1 .1 .1)
-    (mirror-fails (a .d) (a .rows .now) (a .n) (a .z .now) (a .products .now) (r .rows .i) (s .pre .0) (m .before .before .before .rows-test .taken) (k .result .now) (out h) (h .loop .t)
-    (k .ensures .0) (m .mirror-residues .ensures) (inside (c .before .before .before .before .before)) (a .plan) (a .owners .now) (s .pre .1 .1 .1) (sym (forbids (c .before)) ∙ c .if1 .taken) (h .loop .inv .0))
+    (mirror-fails (a .plan) (a .d) (a .rows .now) (a .n) (a .z .now) (a .owners .now) (s .pre .1 .1 .1) (r .rows .i) (h .loop .t) (getD (out h) (h .loop .t) 0) (here g) (sym (forbids (c .before)) ∙ c .if1 .taken) (h .loop .inv .0)
+    (h .before .before .before .before .before .before .rows-test .taken))
 
 pub mirrors-apart-spec : {M : Type 1} → statement M
 mirrors-apart-spec =

@@ -1,13 +1,14 @@
--- `planner::rule::record_owners` meets its contract: the table has the owners among the rows passed.
+-- `rule::record_owners` meets its contract: the table has the owners among the rows passed.
 use mathlib.Core.Path.{_≡_, refl, _∙_}
 use Prim.Native.Nat.{_-_, _≤_}
 use native.Mathlib.Omega.{arith}
 use lib.ListN.{length, length-set}
 use Rattle.rank1.specs.Index.{indexList}
+use Rattle.rank1.proofs.IndexLaws.{row-inside}
 use Rattle.planner.specs.Inner.{Owners, residueOf}
-use Rattle.planner.proofs.OwnerLaws.{owners-none, owners-more}
-use Rattle.planner.proofs.MirrorResidues.{row-ready}
-use Rattle.planner.proofs.RuleIndex.{row-room, residue-number, recorded-all, recorded-clash}
+use Rattle.planner.proofs.rule.OwnerLaws.{owners-none, owners-more}
+use Rattle.planner.proofs.mirrors.MirrorResidues.{row-ready}
+use Rattle.planner.proofs.rule.RuleIndex.{residue-number, recorded-all, recorded-clash}
 use borrow.Author.Needs.{needs}
 use Rattle.planner.proofs.rule.record_owners.Statement.{statement}
 use Rattle.planner.proofs.rule.record_owners.Tie as tie
@@ -40,14 +41,13 @@ loop-holds c =
 row-at-requires : tie.Need-row-at-requires Inv-loop μ-loop
 row-at-requires c κs =
     let s = start (c .before) in
-    row-room (s .args .d) (s .args .rows .now) (s .args .n) (s .args .z .now) (s .args .products .now) (c .before .loop .i) (s .pre .0) (c .loop-test .taken)
+    row-inside (s .args .d) (c .before .loop .i) (s .args .rows .now) (c .loop-test .taken) (s .pre .0 .whole)
 
 row-residue-requires : tie.Need-row-residue-requires Inv-loop μ-loop
 row-residue-requires c κs =
     let s = start (c .before .before) in
     let a = s .args in
-    let r = row-ready (a .d) (a .rows .now) (a .n) (a .z .now) (a .products .now) (c .before .before .loop .i) (s .pre .0) (c .before .loop-test .taken) in
-    ((omega (arith, c .row-at .ensures .1, s .pre .0 .short), omega (arith, s .pre .0 .short, s .pre .0 .few-axes), r .modulus), rw (c .row-at .ensures .0) (r .prepared))
+    row-ready (a .d) (a .rows .now) (a .n) (a .z .now) (a .products .now) (c .before .before .loop .i) (s .pre .0) (c .before .loop-test .taken) (c .row-at .result .now) (c .row-at .ensures .0)
 
 wide-requires-2 : tie.Need-wide-requires-2 Inv-loop μ-loop
 wide-requires-2 c κs = search needs
@@ -71,7 +71,7 @@ returns c =
     let w = c .before .before .wide2 in
     let l = c .before .before .before .before .before .loop-test .taken in
     recorded-clash (a .d) (a .rows .now) (a .n) (a .z .now) (a .products .now) (s .pre .0) (h .loop .owners) (h .loop .i) (w .result) l
-    (residue-number (a .d) (a .rows .now) (a .n) (a .z .now) (a .products .now) (h .loop .i) (s .pre .0) l (k .result .now) (w .result) (k .ensures .0) (w .ensures ∙ r .ensures .0))
+    (residue-number (a .d) (a .rows .now) (h .loop .i) l (k .result .now) (k .ensures .0) (a .n) (a .z .now) (w .result) (w .ensures ∙ r .ensures .0))
     (omega (arith, r .ensures .1)) (c .if1 .taken) (h .loop .inv .2)
 
 add-owners : tie.Need-add-owners Inv-loop μ-loop
@@ -103,7 +103,7 @@ loop-again c =
       omega arith,
       simp length-set (omega arith),
       owners-more (residueOf (a .n) (a .z .now) (indexList (a .d) (a .rows .now))) (a .n) (h .loop .i) (w .result) (h .loop .owners) (omega (arith, s .pre .1, h .before .before .before .clear .kept .0))
-          (residue-number (a .d) (a .rows .now) (a .n) (a .z .now) (a .products .now) (h .loop .i) (s .pre .0) (c .before .before .before .before .before .loop-test .taken) (k .result .now) (w .result) (k .ensures .0) (w .ensures ∙ r .ensures .0))
+          (residue-number (a .d) (a .rows .now) (h .loop .i) (c .before .before .before .before .before .loop-test .taken) (k .result .now) (k .ensures .0) (a .n) (a .z .now) (w .result) (w .ensures ∙ r .ensures .0))
           (omega (arith, r .ensures .1)) (c .if1 .left) (h .loop .inv .2),
     )
 

@@ -1,8 +1,8 @@
--- `planner::rule::rule_holds` meets its contract, plan by plan.
+-- `rule::rule_holds` meets its contract, plan by plan.
 use native.Mathlib.Omega.{arith}
 use borrow.Author.Needs.{needs}
 use borrow.Author.Tests.{not-true, not-false}
-use Rattle.planner.proofs.RuleIndex.{recorded-rows, recorded-holds, recorded-breaks}
+use Rattle.planner.proofs.rule.RuleIndex.{recorded-rows, recorded-holds, recorded-breaks}
 use Rattle.planner.proofs.rule.rule_holds.Statement.{statement}
 use Rattle.planner.proofs.rule.rule_holds.Tie as tie
 

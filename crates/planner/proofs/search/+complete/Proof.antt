@@ -7,8 +7,9 @@ use mathlib.Core.Bool.{Bool}
 use Prim.Native.Nat.{ℕ, _+_, _-_, _<_}
 use native.Mathlib.Omega.{arith}
 use lib.ListN.{length}
+use Rattle.rank1.specs.Rule.{Admissible}
 use Rattle.planner.specs.Stage.{searched, Completed}
-use Rattle.planner.proofs.SearchSteps.{Passed, passed-none, passed-more, passed-skip, found, ended, whole, passed-same, stage-passed}
+use Rattle.planner.proofs.search.SearchSteps.{Passed, passed-none, passed-more, passed-skip, found, ended, whole, passed-same, stage-passed}
 use borrow.Fn.Kinds.{In}
 use borrow.Fn.PlainCycle.{Measures, is, falls, and}
 use Rattle.planner.proofs.search.complete.Reads as complete
@@ -35,7 +36,7 @@ calls t = (try-component-reads.Asked, try-component-reads.Learnt, complete-below
 
 abbrev complete-Inv-loop : complete-lts.InvT-loop
 complete-Inv-loop plan d runs shape top n at z₀ products₀ owners₀ v₀ z products owners v =
-    Passed plan d (searched d runs shape) n at z₀ products₀ owners₀ z products owners v
+    Passed (Admissible plan (searched d runs shape)) d n at z₀ products₀ owners₀ z products owners v
 
 abbrev complete-μ-loop : complete-lts.MeasureT-loop
 complete-μ-loop plan d runs shape top n at z₀ products₀ owners₀ v₀ z products owners v = n - v
@@ -54,7 +55,7 @@ complete-returns t c =
     (whole (start .pre .1 .0) (start .pre .1 .1) (c .if1 .taken), λ i l. refl)
 
 complete-loop-holds : (t : ℕ) → complete-lts.Need-loop-holds (calls t) (complete-at t) complete.Post complete-Inv-loop complete-μ-loop
-complete-loop-holds t c = passed-none _ _ _ _ _ _ _ _
+complete-loop-holds t c = passed-none _ _ _ _ _ _ _
 
 complete-try-component-requires : (t : ℕ) → complete-lts.Need-try-component-requires (calls t) (complete-at t) complete.Post complete-Inv-loop complete-μ-loop
 complete-try-component-requires t c κs =
@@ -90,7 +91,7 @@ complete-returns-2 t c =
     let else = in-loop .before .before in
     let start = else .before .before .before .before .before in (
       found (in-loop .before .loop .inv) (in-loop .loop-test .taken) (inside t else) (tried .ensures .stored) (done .last .1 .1 .1 .1 .1 .1 .1 .0)
-          (subst (λ (r : Bool). Completed (start .args .plan) (start .args .d) (searched (start .args .d) (start .args .runs .now) (start .args .shape .now)) (start .args .n) (start .args .at + 1) (tried .last .1 .1 .1 .1 .1 .1 .1 .1 .0) (done .last .1 .1 .1 .1 .1 .1 .1 .0) r) (c .if3 .taken) (done .ensures .0)),
+          (subst (λ (r : Bool). Completed (Admissible (start .args .plan) (searched (start .args .d) (start .args .runs .now) (start .args .shape .now))) (start .args .d) (start .args .n) (start .args .at + 1) (tried .last .1 .1 .1 .1 .1 .1 .1 .1 .0) (done .last .1 .1 .1 .1 .1 .1 .1 .0) r) (c .if3 .taken) (done .ensures .0)),
       λ i l. done .ensures .1 i (omega arith) ∙ tried .ensures .kept i l ∙ in-loop .before .loop .inv .table i l,
     )
 

@@ -1,5 +1,6 @@
 -- `planner::search::axes_interchange` meets its contract. The invariant: each row before t, exchanged, is listed. Measure: the rows
 -- left.
+use mathlib.Core.Bool.{false≢true}
 use mathlib.Core.Path.{subst}
 use mathlib.Core.List.{List, List·Memᴰ}
 use Prim.Native.Nat.{ℕ, _*_, _≤_, _<_, _-_, zero-le}
@@ -10,9 +11,9 @@ use borrow.Author.Tests.{not-false}
 use lib.IntN.{ℤ}
 use lib.ListN.{length, take, drop}
 use Rattle.rank1.specs.Index.{rowCount, indexList}
-use Rattle.rank1.proofs.SwapLaws.{swap}
-use Rattle.planner.proofs.SearchSteps.{false-true}
-use Rattle.planner.proofs.SwapSteps.{row-inside, rows-interchange}
+use Rattle.rank1.specs.Axes.{swap}
+use Rattle.rank1.proofs.IndexLaws.{row-inside}
+use Rattle.planner.proofs.search.SwapSteps.{rows-interchange}
 use borrow.Author.Needs.{needs}
 use Rattle.planner.proofs.search.axes_interchange.Statement.{statement}
 use Rattle.planner.proofs.search.axes_interchange.Tie as tie
@@ -38,7 +39,7 @@ stands-swapped-requires : tie.Need-stands-swapped-requires Inv-loop μ-loop
 stands-swapped-requires c κs = search needs
 
 returns : tie.Need-returns Inv-loop μ-loop
-returns c = false-true
+returns c = λ e. absurd (false≢true e)
 
 add-t : tie.Need-add-t Inv-loop μ-loop
 add-t c =

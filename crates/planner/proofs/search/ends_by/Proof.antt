@@ -10,7 +10,7 @@ use mir.Val.{toZ, ofZ}
 use mir.Facts.{toZ-ofZ}
 use borrow.Author.Needs.{sfits-of}
 use Rattle.planner.specs.Stage.{zeroFrom}
-use Rattle.planner.proofs.LevelLaws.{zero-more, zero-found, zero-none}
+use Rattle.planner.proofs.search.LevelLaws.{zero-more, zero-found, zero-none}
 use borrow.Author.Needs.{needs}
 use Rattle.planner.proofs.search.ends_by.Statement.{statement}
 use Rattle.planner.proofs.search.ends_by.Tie as tie

@@ -1,7 +1,7 @@
 -- `planner::search::falls` meets its contract: the axis at which it stops. Measure: the earlier axes left.
+use mathlib.Core.Bool.{false≢true}
 use Prim.Native.Nat.{_≤_, _-_}
 use native.Mathlib.Omega.{arith}
-use Rattle.planner.proofs.SearchSteps.{false-true}
 use borrow.Author.Needs.{needs}
 use Rattle.planner.proofs.search.falls.Statement.{statement}
 use Rattle.planner.proofs.search.falls.Tie as tie
@@ -50,7 +50,7 @@ loop-again : tie.Need-loop-again Inv-loop μ-loop
 loop-again c = search needs
 
 returns-2 : tie.Need-returns-2 Inv-loop μ-loop
-returns-2 c = false-true
+returns-2 c = λ e. absurd (false≢true e)
 
 pub falls-spec : {M : Type 1} → statement M
 falls-spec =

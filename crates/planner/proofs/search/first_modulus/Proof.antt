@@ -4,20 +4,21 @@ use mathlib.Core.Path.{_∙_}
 use Prim.Native.Nat.{suc, _-_}
 use native.Mathlib.Omega.{arith}
 use borrow.Author.Needs.{needs}
+use Rattle.rank1.specs.Rule.{Admissible}
 use Rattle.planner.specs.Stage.{searched}
-use Rattle.planner.proofs.SearchSteps.{Ascending, ascend-none, ascend-more, ascended, all-failed}
+use Rattle.planner.proofs.search.SearchSteps.{Ascending, ascend-none, ascend-more, ascended, all-failed}
 use Rattle.planner.proofs.search.first_modulus.Statement.{statement}
 use Rattle.planner.proofs.search.first_modulus.Tie as tie
 
 abbrev Inv-loop : tie.InvT-loop
 Inv-loop plan d runs shape top low high z₀ products₀ owners₀ n₀ z products owners n =
-    Ascending plan d (searched d runs shape) low n z₀ products₀ owners₀ z products owners
+    Ascending (Admissible plan (searched d runs shape)) d low n z₀ products₀ owners₀ z products owners
 
 abbrev μ-loop : tie.MeasureT-loop
 μ-loop plan d runs shape top low high z₀ products₀ owners₀ n₀ z products owners n = suc high - n
 
 loop-holds : tie.Need-loop-holds Inv-loop μ-loop
-loop-holds c = ascend-none _ _ _ _ _ _ _
+loop-holds c = ascend-none _ _ _ _ _ _
 
 first-vector-requires : tie.Need-first-vector-requires Inv-loop μ-loop
 first-vector-requires c κs =

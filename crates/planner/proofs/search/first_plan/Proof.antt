@@ -8,9 +8,11 @@ use borrow.Author.Needs.{needs}
 use lib.ListN.{length, take, drop, replicate}
 use lib.Seq.{length-take-le, length-front, take-at}
 use Rattle.rank1.specs.Index.{indexList}
+use Rattle.rank1.specs.Rule.{Admissible}
 use Rattle.planner.specs.Stage.{Ascended}
-use Rattle.planner.proofs.PlanLaws.{covered-zeros, ascended-none, ascended-found}
-use Rattle.planner.proofs.GroupSteps.{blank}
+use Rattle.planner.proofs.search.LevelLaws.{covered-zeros}
+use Rattle.planner.proofs.search.SearchSteps.{between-none, between-found}
+use Rattle.planner.proofs.groups.GroupSteps.{blank}
 use Rattle.planner.proofs.search.first_plan.Statement.{statement}
 use Rattle.planner.proofs.search.first_plan.Tie as tie
 
@@ -41,10 +43,10 @@ vector-read : (c : tie.After-first-modulus) → take (start-of (c .before) .args
 vector-read c = take-at (vector-of c) (drop (start-of (c .before) .args .d) six) (start-of (c .before) .args .d) (vector-size c)
 
 -- the list that is searched is the list given
-searched-list : (c : tie.After-first-modulus) → Ascended (start-of (c .before) .args .plan) (start-of (c .before) .args .d) (indexList (start-of (c .before) .args .d) (start-of (c .before) .args .rows .now)) (start-of (c .before) .args .low) (start-of (c .before) .args .high) (vector-of c) (c .first-modulus .result)
+searched-list : (c : tie.After-first-modulus) → Ascended (Admissible (start-of (c .before) .args .plan) (indexList (start-of (c .before) .args .d) (start-of (c .before) .args .rows .now))) (start-of (c .before) .args .d) (start-of (c .before) .args .low) (start-of (c .before) .args .high) (vector-of c) (c .first-modulus .result)
 searched-list c =
     let s = start-of (c .before) .args in
-    subst (λ ks. Ascended (s .plan) (s .d) ks (s .low) (s .high) (vector-of c) (c .first-modulus .result))
+    subst (λ ks. Ascended (Admissible (s .plan) ks) (s .d) (s .low) (s .high) (vector-of c) (c .first-modulus .result))
     (c .before .before .before .before .before .before .before .before .set-up .ensures .1)
     (c .first-modulus .ensures)
 
@@ -92,7 +94,7 @@ returns : tie.Need-returns
 returns c =
     let call = c .before .before .before .before in
     let s = start-of (call .before) .args in
-    ascended-none (s .plan) (s .d) (indexList (s .d) (s .rows .now)) (s .low) (s .high) (s .z .now) (searched-list call) (c .if1 .taken)
+    between-none (Admissible (s .plan) (indexList (s .d) (s .rows .now))) (s .d) (s .low) (s .high) (s .z .now) (searched-list call) (c .if1 .taken)
 
 array-share-prefix-x : tie.Need-array-share-prefix-x
 array-share-prefix-x c =
@@ -116,7 +118,7 @@ returns-2 : tie.Need-returns-2
 returns-2 c =
     let call = c .before .before .before .before .before .before .before .before .before in
     let s = start-of (call .before) .args in
-    ascended-found (s .plan) (s .d) (indexList (s .d) (s .rows .now)) (s .low) (s .high) (s .z .now) (c .before .before .copy .last .0)
+    between-found (Admissible (s .plan) (indexList (s .d) (s .rows .now))) (s .d) (s .low) (s .high) (s .z .now) (c .before .before .copy .last .0)
     (c .before .before .copy .ensures ∙ vector-read call) (searched-list call) (c .before .before .before .before .before .if1 .left)
 
 pub first-plan-spec : {M : Type 1} → statement M

@@ -2,8 +2,9 @@
 -- that are 0 throughout fail (nothing-fails), has no vector; else what `complete` gives with nothing fixed is first (decided).
 use borrow.Author.Needs.{needs}
 use borrow.Author.Tests.{not-true, not-false}
-use Rattle.planner.specs.Stage.{Stage}
-use Rattle.planner.proofs.SearchSteps.{stage-none, stage-owners, few-numbers, nothing-fails, decided}
+use Rattle.rank1.proofs.RuleLaws.{plan-reduces}
+use Rattle.planner.specs.Stage.{searched, Stage}
+use Rattle.planner.proofs.search.SearchSteps.{stage-none, stage-owners, few-numbers, nothing-fails, decided}
 use Rattle.planner.proofs.search.first_vector.Statement.{statement}
 use Rattle.planner.proofs.search.first_vector.Tie as tie
 
@@ -60,7 +61,8 @@ same-length-6 c = search needs
 returns-3 : tie.Need-returns-3
 returns-3 c =
     let start = c .before .before .before .before .before .before .before .before .before .before .before .before .before .before .before .before .before .before .before .before .before .before in
-    decided _ _ _ _ _ _ _ (start .pre .1 .0 .low) (c .before .before .before .before .before .before .complete .ensures .0)
+    let a = start .args in
+    decided _ (plan-reduces (a .plan) (searched (a .d) (a .runs .now) (a .shape .now))) _ _ _ _ _ (start .pre .1 .0 .low) (c .before .before .before .before .before .before .complete .ensures .0)
 
 pub first-vector-spec : {M : Type 1} → statement M
 first-vector-spec =

@@ -1,12 +1,13 @@
 -- `planner::search::groups_hold` meets its contract: where the rule fails on a group, no first vector begins as z (group-fails).
 -- Measure: the groups left.
+use mathlib.Core.Bool.{true≢false}
 use mathlib.Core.Path.{_≡_, refl, sym, _∙_}
 use Prim.Native.Nat.{_+_, _-_, _<_, _≤_}
 use native.Mathlib.Omega.{arith}
 use lib.ListN.{length, getD}
 use lib.Seq.{length-take-le}
-use Rattle.planner.proofs.SearchSteps.{true-false, run-ready}
-use Rattle.planner.proofs.GroupSteps.{marks-inside, marks-upward, run-inside, run-is, group-ready, group-fails}
+use Rattle.planner.proofs.search.SearchSteps.{run-ready}
+use Rattle.planner.proofs.groups.GroupSteps.{marks-inside, marks-upward, run-inside, run-is, group-ready, group-fails}
 use borrow.Author.Needs.{needs}
 use borrow.Author.Tests.{not-true}
 use Rattle.planner.proofs.search.groups_hold.Statement.{statement}
@@ -132,7 +133,7 @@ same-length-2 : tie.Need-same-length-2 Inv-loop μ-loop
 same-length-2 c = c .before .loop .inv .2
 
 returns-2 : tie.Need-returns-2 Inv-loop μ-loop
-returns-2 c = true-false
+returns-2 c = λ e. absurd (true≢false e)
 
 pub groups-hold-spec : {M : Type 1} → statement M
 groups-hold-spec =

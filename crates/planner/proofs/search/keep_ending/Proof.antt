@@ -8,9 +8,9 @@ use native.Mathlib.Numerals.{add-one}
 use native.Mathlib.Omega.{arith}
 use lib.ListN.{length, take, drop}
 use Rattle.rank1.specs.Index.{rowCount}
-use Rattle.rank1.proofs.IndexLaws.{row-fits}
+use Rattle.rank1.proofs.IndexLaws.{row-inside}
 use Rattle.planner.specs.Stage.{zeroFrom}
-use Rattle.planner.proofs.LevelLaws.{Keeping, keep-none, keep-skip, keep-row, keep-all}
+use Rattle.planner.proofs.search.LevelLaws.{Keeping, keep-none, keep-skip, keep-row, keep-all}
 use borrow.Author.Needs.{needs}
 use Rattle.planner.proofs.search.keep_ending.Statement.{statement}
 use Rattle.planner.proofs.search.keep_ending.Tie as tie
@@ -31,7 +31,7 @@ loop-holds c = (zero-le, keep-none (c .args .d) (c .args .j) (c .args .rows .now
 row-room : (c : tie.In-loop Inv-loop μ-loop) → (c .before .loop .i + 1) * c .before .before .args .d ≤ length (c .before .before .args .rows .now)
 row-room c =
     let a = c .before .before .args in
-    omega (arith, row-fits (a .d) (rowCount (a .d) (a .rows .now)) (c .before .loop .i) (length (a .rows .now)) (omega arith) (omega arith))
+    row-inside (a .d) (c .before .loop .i) (a .rows .now) (omega arith) (omega arith)
 
 -- and `out` has places for it
 place-room : (c : tie.In-loop Inv-loop μ-loop) → c .before .loop .at + c .before .before .args .d ≤ length (c .before .loop .out)

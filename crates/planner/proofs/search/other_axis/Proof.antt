@@ -1,6 +1,6 @@
 -- `planner::search::other_axis` meets its contract: the tests by cases on whether a is i or j.
 use mathlib.Core.Path.{sym}
-use Rattle.planner.proofs.SwapSteps.{other-first, other-second, other-none}
+use Rattle.planner.proofs.search.SwapSteps.{other-first, other-second, other-none}
 use Rattle.planner.proofs.search.other_axis.Statement.{statement}
 use Rattle.planner.proofs.search.other_axis.Tie as tie
 

@@ -8,7 +8,7 @@ use lib.IntN.{ℤ}
 use lib.ListN.{getD, take, drop}
 use lib.Seq.{length-take-le}
 use Rattle.planner.specs.Stage.{levelRun}
-use Rattle.planner.proofs.SearchSteps.{stage-ready, stage-unsigned, stage-decides}
+use Rattle.planner.proofs.search.SearchSteps.{stage-ready, stage-unsigned, stage-decides}
 use Rattle.planner.proofs.search.rule_at.Statement.{statement}
 use Rattle.planner.proofs.search.rule_at.Tie as tie
 

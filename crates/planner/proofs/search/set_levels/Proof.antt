@@ -3,7 +3,7 @@ use mathlib.Core.Path.{_≡_, refl, subst}
 use Prim.Native.Nat.{ℕ, _+_, _*_, _≤_, _-_, zero-le}
 use native.Mathlib.Omega.{arith}
 use Rattle.planner.specs.Stage.{LevelsTo}
-use Rattle.planner.proofs.LevelLaws.{levels-none, levels-more, part-size, valid-size}
+use Rattle.planner.proofs.search.LevelLaws.{levels-none, levels-more, part-size, valid-size}
 use borrow.Author.Needs.{needs}
 use Rattle.planner.proofs.search.set_levels.Statement.{statement}
 use Rattle.planner.proofs.search.set_levels.Tie as tie

@@ -7,7 +7,7 @@ use native.Mathlib.Omega.{arith}
 use lib.ListN.{length, length-set}
 use Rattle.rank1.specs.Index.{indexList}
 use Rattle.planner.specs.Stage.{Swaps}
-use Rattle.planner.proofs.SwapSteps.{swaps-more}
+use Rattle.planner.proofs.search.SwapSteps.{swaps-more}
 use borrow.Author.Needs.{needs}
 use Rattle.planner.proofs.search.set_swaps.Statement.{statement}
 use Rattle.planner.proofs.search.set_swaps.Tie as tie

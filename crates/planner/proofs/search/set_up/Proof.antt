@@ -11,9 +11,9 @@ use lib.Seq.{length-take-le, take-at, drop-at}
 use Rattle.rank1.specs.Index.{indexList}
 use Rattle.planner.specs.Inner.{Covered}
 use Rattle.planner.specs.Stage.{Swaps}
-use Rattle.planner.proofs.ProductLaws.{covered-take, covered-drop}
-use Rattle.planner.proofs.SwapSteps.{swaps-blank}
-use Rattle.planner.proofs.GroupSteps.{blank-take, blank-drop, second-part, set-up-all}
+use Rattle.planner.proofs.products.ProductLaws.{covered-take, covered-drop}
+use Rattle.planner.proofs.search.SwapSteps.{swaps-blank}
+use Rattle.planner.proofs.groups.GroupSteps.{blank-take, blank-drop, second-part, set-up-all}
 use borrow.Author.Needs.{needs}
 use Rattle.planner.proofs.search.set_up.Statement.{statement}
 use Rattle.planner.proofs.search.set_up.Tie as tie

@@ -1,12 +1,13 @@
 -- `planner::search::stands_swapped` meets its contract: the row at which it stops. Measure: the rows left.
+use mathlib.Core.Bool.{false≢true}
 use mathlib.Core.Path.{sym, _∙_}
 use Prim.Native.Nat.{_≤_, _-_}
 use native.Mathlib.Nat.{div-le-self}
 use native.Mathlib.Omega.{arith}
 use lib.ListN.{length}
 use Rattle.rank1.specs.Index.{rowCount}
-use Rattle.planner.proofs.SearchSteps.{false-true}
-use Rattle.planner.proofs.SwapSteps.{row-inside, swapped-listed}
+use Rattle.rank1.proofs.IndexLaws.{row-inside}
+use Rattle.planner.proofs.search.SwapSteps.{swapped-listed}
 use borrow.Author.Needs.{needs}
 use Rattle.planner.proofs.search.stands_swapped.Statement.{statement}
 use Rattle.planner.proofs.search.stands_swapped.Tie as tie
@@ -49,7 +50,7 @@ loop-again : tie.Need-loop-again Inv-loop μ-loop
 loop-again c = search needs
 
 returns-2 : tie.Need-returns-2 Inv-loop μ-loop
-returns-2 c = false-true
+returns-2 c = λ e. absurd (false≢true e)
 
 pub stands-swapped-spec : {M : Type 1} → statement M
 stands-swapped-spec =

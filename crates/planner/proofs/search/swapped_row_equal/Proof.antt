@@ -1,5 +1,6 @@
 -- `planner::search::swapped_row_equal` meets its contract. The invariant: the components before a are those of the other row with
 -- two exchanged. Measure: the components left.
+use mathlib.Core.Bool.{false≢true}
 use mathlib.Core.Path.{_≡_, sym, _∙_, ap}
 use Prim.Native.Nat.{ℕ, _≤_, _<_, _-_, zero-le}
 use native.Mathlib.Omega.{arith}
@@ -11,8 +12,7 @@ use mir.Facts.{toZ-ofZ}
 use borrow.Author.Count.{below-more}
 use borrow.Author.Needs.{needs, sfits-of}
 use Rattle.planner.specs.Stage.{otherAxis}
-use Rattle.planner.proofs.SearchSteps.{false-true}
-use Rattle.planner.proofs.SwapSteps.{other-below, swapped-row}
+use Rattle.planner.proofs.search.SwapSteps.{other-below, swapped-row}
 use Rattle.planner.proofs.search.swapped_row_equal.Statement.{statement}
 use Rattle.planner.proofs.search.swapped_row_equal.Tie as tie
 
@@ -47,7 +47,7 @@ shared-slice-copy-out-if1-2 : tie.Need-shared-slice-copy-out-if1-2 Inv-loop μ-l
 shared-slice-copy-out-if1-2 c = inside c
 
 returns : tie.Need-returns Inv-loop μ-loop
-returns c = false-true
+returns c = λ e. absurd (false≢true e)
 
 add-a : tie.Need-add-a Inv-loop μ-loop
 add-a c = search needs

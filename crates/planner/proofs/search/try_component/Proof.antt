@@ -1,13 +1,14 @@
 -- `planner::search::try_component` meets its contract. No first vector begins so where the value is ruled out
 -- (ruled-out-fails), or where the rule fails on the rows that end there (fine-fails) or on a group there (groups_hold).
+use mathlib.Core.Bool.{false≢true}
 use mathlib.Core.Path.{refl, _∙_}
 use native.Mathlib.Omega.{arith}
 use borrow.Author.Needs.{needs}
 use borrow.Author.Tests.{not-true, not-false}
 use lib.ListN.{length-set}
 use lib.Seq.{getD-set-same}
-use Rattle.planner.proofs.SearchSteps.{false-true, stage-more, stage-owners, fine-fails}
-use Rattle.planner.proofs.SwapSteps.{ruled-out-fails}
+use Rattle.planner.proofs.search.SearchSteps.{stage-more, stage-owners, fine-fails}
+use Rattle.planner.proofs.search.SwapSteps.{ruled-out-fails}
 use Rattle.planner.proofs.search.try_component.Statement.{statement}
 use Rattle.planner.proofs.search.try_component.Tie as tie
 
@@ -35,8 +36,8 @@ returns c =
     record {
       stored = refl;
       kept = λ i l. refl;
-      stage = false-true;
-      fine = false-true;
+      stage = λ e. absurd (false≢true e);
+      fine = λ e. absurd (false≢true e);
       none = λ _.
           ruled-out-fails (start .pre .0 .levels) (start .pre .0 .modulus .low) (start .pre .1 .0) _
           (getD-set-same (start .args .z .now) (start .args .at) (start .args .v) 0 (omega (arith, start .pre)))
@@ -72,8 +73,8 @@ returns-2 c =
     record {
       stored = refl;
       kept = call .ensures .kept;
-      stage = false-true;
-      fine = false-true;
+      stage = λ e. absurd (false≢true e);
+      fine = λ e. absurd (false≢true e);
       none = λ _. fine-fails (stage-more (start .pre .0) (start .pre .1 .0) (start .pre .1 .1) (call .ensures)) (rule .ensures .no (not-true _ (c .if2 .taken)));
     }
 

@@ -1,5 +1,5 @@
 -- `sums::add_term` meets its contract. The invariant: at each place a has been added as often as it occurs among the first t
--- residues. `Shared` keeps the sums in 64 bits.
+-- residues. `Addable` keeps the sums in 64 bits.
 use mathlib.Core.Path.{_≡_, refl}
 use Prim.Native.Nat.{ℕ, zero-le, _≤_, _<_, _-_}
 use native.Mathlib.Omega.{arith}
@@ -11,8 +11,8 @@ use mir.Syntax.{w64}
 use mir.Val.{SFits, toZ, ofZ}
 use mir.Facts.{toZ-ofZ}
 use Rattle.planner.specs.Inner.{occurrences}
-use Rattle.planner.proofs.SignedSteps.{sum-fits, sum-back}
-use Rattle.planner.proofs.SumSteps.{none-added, term-more, term-fits}
+use Rattle.planner.proofs.sums.SignedSteps.{sum-fits, sum-back}
+use Rattle.planner.proofs.sums.SumSteps.{none-added, term-more, term-fits}
 use Rattle.planner.proofs.sums.add_term.Statement.{statement}
 use Rattle.planner.proofs.sums.add_term.Tie as tie
 

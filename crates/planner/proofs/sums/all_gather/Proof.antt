@@ -15,9 +15,7 @@ use Rattle.rank1.proofs.Distinct.{member-at}
 use Rattle.rank1.proofs.IndexLaws.{rows-length}
 use Rattle.rank1.proofs.CountLaws.{at-places}
 use Rattle.rank1.proofs.TestLaws.{true-every, false-every}
-use Rattle.planner.specs.Inner.{EntryOf}
-use Rattle.planner.proofs.RuleIndex.{row-room}
-use Rattle.planner.proofs.SumSteps.{ready-row, entry-row, gather-test}
+use Rattle.planner.proofs.sums.SumSteps.{gather-test}
 use Rattle.planner.proofs.sums.all_gather.Statement.{statement}
 use Rattle.planner.proofs.sums.all_gather.Tie as tie
 
@@ -38,24 +36,18 @@ here c = getD (indexList (start c .args .d) (start c .args .rows .now)) (c .loop
 abbrev passes : tie.At-loop Inv-loop μ-loop → Bool
 passes c = gathers (start c .args .plan) (start c .args .n) (map pos (start c .args .z .now)) (start c .args .sums .now) (here c)
 
--- the row's entry is that of row i, so its sum is a place
-entry : (c : tie.After-entry-of Inv-loop μ-loop) → EntryOf (start (c .before .before .before) .args .plan) (start (c .before .before .before) .args .n) (start (c .before .before .before) .args .z .now) (here (c .before .before .before)) (c .entry-of .result .residue) (c .entry-of .result .copies)
-entry c =
-    let s = start (c .before .before .before) in
-    let a = s .args in
-    entry-row (a .d) (a .rows .now) (a .n) (a .z .now) (a .products .now) (c .before .before .before .loop .i) (s .pre .0) (c .before .before .loop-test .taken) (c .before .row-at .result .now) (c .before .row-at .ensures .0) (a .plan) (c .entry-of .result .residue) (c .entry-of .result .copies) (c .entry-of .ensures)
-
-inside : (c : tie.After-wide Inv-loop μ-loop) → c .wide .result < length (start (c .before .before .before .before) .args .sums .now)
-inside c = omega (arith, c .wide .ensures, entry (c .before) .inside, start (c .before .before .before .before) .pre .1)
+-- its sum is a place
+inside : (c : tie.After-wide Inv-loop μ-loop) → c .wide .result < length (start (c .before .before .before) .args .sums .now)
+inside c = omega (arith, c .wide .ensures, c .before .entry-at .ensures .inside, start (c .before .before .before) .pre .1)
 
 -- the test is of row i
-tested : (c : tie.After-divides-evenly Inv-loop μ-loop) → c .divides-evenly .result ≡ passes (c .before .before .before .before .before .before)
+tested : (c : tie.After-divides-evenly Inv-loop μ-loop) → c .divides-evenly .result ≡ passes (c .before .before .before .before .before)
 tested c =
     let w = c .before .before in
-    let at = w .before .before .before .before in
+    let at = w .before .before .before in
     let a = start at .args in
     c .divides-evenly .ensures
-    ∙ gather-test (a .plan) (a .n) (a .z .now) (here at) (w .before .entry-of .result .residue) (w .before .entry-of .result .copies) (entry (w .before)) (a .sums .now) (w .wide .result) (w .wide .ensures) (c .before .divides-evenly-arg .given)
+    ∙ gather-test (a .plan) (a .n) (a .z .now) (here at) (w .before .entry-at .result .residue) (w .before .entry-at .result .copies) (w .before .entry-at .ensures) (a .sums .now) (w .wide .result) (w .wide .ensures) (c .before .divides-evenly-arg .given)
 
 div-i-end : tie.Need-div-i-end Inv-loop μ-loop
 div-i-end c = c .before .before .pre .0 .some-axes
@@ -63,17 +55,8 @@ div-i-end c = c .before .before .pre .0 .some-axes
 loop-holds : tie.Need-loop-holds Inv-loop μ-loop
 loop-holds c = (zero-le, λ j l. absurd (omega arith))
 
-row-at-requires : tie.Need-row-at-requires Inv-loop μ-loop
-row-at-requires c κs =
-    let s = start (c .before) in
-    let a = s .args in
-    row-room (a .d) (a .rows .now) (a .n) (a .z .now) (a .products .now) (c .before .loop .i) (s .pre .0) (c .loop-test .taken)
-
-entry-of-requires : tie.Need-entry-of-requires Inv-loop μ-loop
-entry-of-requires c κs =
-    let s = start (c .before .before) in
-    let a = s .args in
-    ready-row (a .d) (a .rows .now) (a .n) (a .z .now) (a .products .now) (c .before .before .loop .i) (s .pre .0) (c .before .loop-test .taken) (c .row-at .result .now) (c .row-at .ensures .0)
+entry-at-requires : tie.Need-entry-at-requires Inv-loop μ-loop
+entry-at-requires c κs = (start (c .before) .pre .0, c .loop-test .taken)
 
 wide-requires : tie.Need-wide-requires Inv-loop μ-loop
 wide-requires c κs = search needs
@@ -86,16 +69,16 @@ shared-slice-copy-out-divides-evenly :
 shared-slice-copy-out-divides-evenly c = inside c
 
 divides-evenly-requires : tie.Need-divides-evenly-requires Inv-loop μ-loop
-divides-evenly-requires c κs = let e = entry (c .before .before) in (e .some, e .few)
+divides-evenly-requires c κs = let e = c .before .before .entry-at .ensures in (e .some, e .few)
 
 returns : tie.Need-returns Inv-loop μ-loop
 returns c =
-    let at = c .before .before .before .before .before .before .before in
+    let at = c .before .before .before .before .before .before in
     let a = start at .args in
     let ks = indexList (a .d) (a .rows .now) in
     sym
     (false-every (gathers (a .plan) (a .n) (map pos (a .z .now)) (a .sums .now)) ks (getD ks (at .loop .i) [])
-    (member-at ks [] (at .loop .i) (omega (arith, c .before .before .before .before .before .before .loop-test .taken, rows-length (a .d) (rowCount (a .d) (a .rows .now)) (a .rows .now))))
+    (member-at ks [] (at .loop .i) (omega (arith, c .before .before .before .before .before .loop-test .taken, rows-length (a .d) (rowCount (a .d) (a .rows .now)) (a .rows .now))))
     (sym (tested (c .before)) ∙ not-true (c .before .divides-evenly .result) (c .if1 .taken)))
 
 add-i : tie.Need-add-i Inv-loop μ-loop
@@ -106,7 +89,7 @@ loop-less c = search needs
 
 loop-again : tie.Need-loop-again Inv-loop μ-loop
 loop-again c =
-    let at = c .before .before .before .before .before .before .before in
+    let at = c .before .before .before .before .before .before in
     let a = start at .args in (
       omega arith,
       below-more (λ j. gathers (a .plan) (a .n) (map pos (a .z .now)) (a .sums .now) (getD (indexList (a .d) (a .rows .now)) j []) ≡ true) (at .loop .i) (at .loop .inv .1)
@@ -131,8 +114,7 @@ all-gather-spec =
     μ-loop
     div-i-end
     loop-holds
-    row-at-requires
-    entry-of-requires
+    entry-at-requires
     wide-requires
     mul-divides-evenly
     shared-slice-copy-out-divides-evenly

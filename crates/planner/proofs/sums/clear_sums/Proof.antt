@@ -5,7 +5,8 @@ use native.Mathlib.Omega.{arith}
 use lib.IntN.{pos}
 use lib.ListN.{length, getD, length-set}
 use borrow.Author.Needs.{needs}
-use Rattle.planner.proofs.SumSteps.{clear-more, clear-all}
+use Rattle.planner.proofs.Writing.{clear-more}
+use Rattle.planner.proofs.sums.SumSteps.{clear-all}
 use Rattle.planner.proofs.sums.clear_sums.Statement.{statement}
 use Rattle.planner.proofs.sums.clear_sums.Tie as tie
 
@@ -36,7 +37,7 @@ loop-again c =
     let v = c .before .loop .inv in (
       omega arith,
       simp length-set (v .1),
-      clear-more (c .before .loop .sums) (c .before .loop .r) (v .2) (omega arith),
+      clear-more (pos 0) (c .before .loop .sums) (c .before .loop .r) (omega arith) (v .2),
     )
 
 same-length : tie.Need-same-length Inv-loop μ-loop

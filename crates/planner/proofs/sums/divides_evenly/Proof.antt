@@ -3,7 +3,7 @@
 use mathlib.Core.Path.{_∙_, ap}
 use borrow.Author.Needs.{needs}
 use Rattle.rank1.specs.Sums.{in32}
-use Rattle.planner.proofs.SignedSteps as S
+use Rattle.planner.proofs.sums.SignedSteps as S
 use Rattle.planner.proofs.sums.divides_evenly.Statement.{statement}
 use Rattle.planner.proofs.sums.divides_evenly.Tie as tie
 

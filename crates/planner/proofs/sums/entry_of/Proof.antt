@@ -3,7 +3,7 @@ use mathlib.Core.Path.{sym}
 use native.Mathlib.Omega.{arith}
 use lib.ListN.{getD, take}
 use lib.Seq.{getD-take}
-use Rattle.planner.proofs.SumSteps.{entry-is}
+use Rattle.planner.proofs.sums.SumSteps.{entry-is}
 use borrow.Author.Needs.{needs}
 use Rattle.planner.proofs.sums.entry_of.Statement.{statement}
 use Rattle.planner.proofs.sums.entry_of.Tie as tie

@@ -1,6 +1,6 @@
 -- `sums::long` meets its contract: a number of 32 bits has 64 bits too.
 use mir.Facts.{toZ-ofZ}
-use Rattle.planner.proofs.SignedSteps.{widened}
+use Rattle.planner.proofs.sums.SignedSteps.{widened}
 use Rattle.planner.proofs.sums.long.Statement.{statement}
 use Rattle.planner.proofs.sums.long.Tie as tie
 

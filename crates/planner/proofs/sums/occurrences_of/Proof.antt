@@ -6,7 +6,7 @@ use native.Mathlib.Omega.{arith}
 use lib.ListN.{take}
 use borrow.Author.Needs.{needs}
 use Rattle.planner.specs.Inner.{occurrences}
-use Rattle.planner.proofs.SumSteps.{occurs, occurs-not, occurs-le}
+use Rattle.planner.proofs.sums.SumSteps.{occurs, occurs-not, occurs-le}
 use Rattle.planner.proofs.sums.occurrences_of.Statement.{statement}
 use Rattle.planner.proofs.sums.occurrences_of.Tie as tie
 

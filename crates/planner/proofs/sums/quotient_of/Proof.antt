@@ -1,7 +1,7 @@
 -- `sums::quotient_of` meets its contract: a sum that passes has a quotient of 32 bits.
 use mir.Facts.{toZ-ofZ}
 use borrow.Author.Needs.{needs}
-use Rattle.planner.proofs.SignedSteps as S
+use Rattle.planner.proofs.sums.SignedSteps as S
 use Rattle.planner.proofs.sums.quotient_of.Statement.{statement}
 use Rattle.planner.proofs.sums.quotient_of.Tie as tie
 

@@ -10,8 +10,8 @@ use lib.ListN.{length, take, length-set}
 use Rattle.rank1.specs.Index.{rowCount, indexList}
 use Rattle.rank1.specs.Sums.{residueMap}
 use Rattle.rank1.proofs.IndexLaws.{rows-length}
-use Rattle.planner.proofs.RuleIndex.{row-room}
-use Rattle.planner.proofs.SumSteps.{map-length, map-more, fill-all, ready-row, entry-row}
+use Rattle.rank1.proofs.SumLaws.{map-length}
+use Rattle.planner.proofs.sums.SumSteps.{map-more, fill-all}
 use Rattle.planner.proofs.sums.write_map.Statement.{statement}
 use Rattle.planner.proofs.sums.write_map.Tie as tie
 
@@ -32,17 +32,8 @@ div-i-end c = c .before .before .before .pre .0 .some-axes
 loop-holds : tie.Need-loop-holds Inv-loop μ-loop
 loop-holds c = (zero-le, c .before .before .before .pre .1, refl)
 
-row-at-requires : tie.Need-row-at-requires Inv-loop μ-loop
-row-at-requires c κs =
-    let s = start (c .before) in
-    let a = s .args in
-    row-room (a .d) (a .rows .now) (a .n) (a .z .now) (a .products .now) (c .before .loop .i) (s .pre .0) (c .loop-test .taken)
-
-entry-of-requires : tie.Need-entry-of-requires Inv-loop μ-loop
-entry-of-requires c κs =
-    let s = start (c .before .before) in
-    let a = s .args in
-    ready-row (a .d) (a .rows .now) (a .n) (a .z .now) (a .products .now) (c .before .before .loop .i) (s .pre .0) (c .before .loop-test .taken) (c .row-at .result .now) (c .row-at .ensures .0)
+entry-at-requires : tie.Need-entry-at-requires Inv-loop μ-loop
+entry-at-requires c κs = (start (c .before) .pre .0, c .loop-test .taken)
 
 mul-out : tie.Need-mul-out Inv-loop μ-loop
 mul-out c = search needs
@@ -51,7 +42,7 @@ mul-out-2 : tie.Need-mul-out-2 Inv-loop μ-loop
 mul-out-2 c = search needs
 
 slice-write-out : tie.Need-slice-write-out Inv-loop μ-loop
-slice-write-out c = omega (arith, c .before .before .before .loop .inv .1, c .before .before .loop-test .taken)
+slice-write-out c = omega (arith, c .before .before .loop .inv .1, c .before .loop-test .taken)
 
 mul-out-3 : tie.Need-mul-out-3 Inv-loop μ-loop
 mul-out-3 c = search needs
@@ -63,7 +54,7 @@ mul-out-4 : tie.Need-mul-out-4 Inv-loop μ-loop
 mul-out-4 c = search needs
 
 slice-write-out-2 : tie.Need-slice-write-out-2 Inv-loop μ-loop
-slice-write-out-2 c = simp length-set (omega (arith, c .before .before .before .loop .inv .1, c .before .before .loop-test .taken))
+slice-write-out-2 c = simp length-set (omega (arith, c .before .before .loop .inv .1, c .before .loop-test .taken))
 
 add-i : tie.Need-add-i Inv-loop μ-loop
 add-i c = search needs
@@ -73,22 +64,17 @@ loop-less c = search needs
 
 loop-again : tie.Need-loop-again Inv-loop μ-loop
 loop-again c =
-    let at = c .before .before .before in
-    let s = start at in
-    let a = s .args in
-    let i = at .loop .i in
-    let l = c .before .before .loop-test .taken in
-    let x = c .entry-of .result .residue in
-    let m = c .entry-of .result .copies in
-    let k = c .before .row-at .result .now in
+    let at = c .before .before in
+    let a = start at .args in
     let ks = indexList (a .d) (a .rows .now) in
-    let e = entry-row (a .d) (a .rows .now) (a .n) (a .z .now) (a .products .now) i (s .pre .0) l k (c .before .row-at .ensures .0) (a .plan) x m (c .entry-of .ensures) in (
+    let size = rows-length (a .d) (rowCount (a .d) (a .rows .now)) (a .rows .now) in
+    let e = c .entry-at in (
       omega arith,
       simp length-set (at .loop .inv .1),
-      map-more (a .plan) (a .n) (map pos (a .z .now)) ks i (at .loop .out) x m
-          (omega (arith, rows-length (a .d) (rowCount (a .d) (a .rows .now)) (a .rows .now)))
-          (omega (arith, at .loop .inv .1, rows-length (a .d) (rowCount (a .d) (a .rows .now)) (a .rows .now)))
-          (e .is-residue) (e .is-copies) (at .loop .inv .2),
+      map-more (a .plan) (a .n) (map pos (a .z .now)) ks (at .loop .i) (at .loop .out) (e .result .residue) (e .result .copies)
+          (omega (arith, c .before .loop-test .taken))
+          (omega (arith, at .loop .inv .1))
+          (e .ensures .is-residue) (e .ensures .is-copies) (at .loop .inv .2),
     )
 
 same-length : tie.Need-same-length Inv-loop μ-loop
@@ -110,8 +96,7 @@ write-map-spec =
     μ-loop
     div-i-end
     loop-holds
-    row-at-requires
-    entry-of-requires
+    entry-at-requires
     mul-out
     mul-out-2
     slice-write-out

@@ -1,6 +1,7 @@
 -- `sums::write_sums` meets its contract. The invariant: the sums are those of the first i rows, whose terms have 32 bits. So 512
--- rows of at most 64 residues stay in 64 bits (`shared`).
+-- rows of at most 64 residues stay in 64 bits (`addable`).
 use mathlib.Core.Path.{_≡_, refl, sym, _∙_, ap}
+use mathlib.Core.Bool.{true}
 use mathlib.Core.List.{map}
 use Prim.Native.Nat.{ℕ, zero-le, _-_, _*_, _≤_, _<_}
 use native.Mathlib.Omega.{arith}
@@ -11,19 +12,20 @@ use lib.ListN.{length, getD, take}
 use mir.Syntax.{w64}
 use mir.Val.{toZ, ofZ}
 use Rattle.rank1.specs.Index.{rowCount, indexList}
-use Rattle.rank1.specs.Sums.{copiesAt, sumAt}
-use Rattle.rank1.proofs.WholeSums.{abs-in32}
-use Rattle.rank1.proofs.IndexLaws.{rows-length, member-length}
+use Rattle.rank1.specs.Sums.{copiesAt, sumAt, in32}
+use Rattle.rank1.proofs.IndexLaws.{rows-length, member-length, row-inside}
+use Rattle.rank1.proofs.WholeSums.{mag-in32}
 use Rattle.planner.specs.Inner.{occurrences, RowReady}
-use Rattle.planner.proofs.RuleIndex.{row-room, row-number}
-use Rattle.planner.proofs.SignedSteps.{passed}
-use Rattle.planner.proofs.SumSteps.{ready-row, shared, occurrences-are, sums-more, sums-small, sums-all}
+use Rattle.planner.proofs.mirrors.MirrorResidues.{row-ready}
+use Rattle.planner.proofs.rule.RuleIndex.{row-number}
+use Rattle.planner.proofs.sums.SignedSteps.{passed}
+use Rattle.planner.proofs.sums.SumSteps.{addable, occurrences-are, sums-more, sums-small, sums-all, in32-small, all-in32}
 use Rattle.planner.proofs.sums.write_sums.Statement.{statement}
 use Rattle.planner.proofs.sums.write_sums.Tie as tie
 
 abbrev Inv-loop : tie.InvT-loop
 Inv-loop plan d rows n z products terms sums₀ residues₀ i₀ i-end sums residues i =
-    (i ≤ length terms) × (length sums ≡ n) × (length residues ≡ 64) × ((j : ℕ) → j < i → natAbs (getD terms j (pos 0)) ≤ 2147483648) × ((r : ℕ) → getD sums r (pos 0) ≡ sumAt plan n (map pos z) (take i (indexList d rows)) (take i terms) r)
+    (i ≤ length terms) × (length sums ≡ n) × (length residues ≡ 64) × ((j : ℕ) → j < i → in32 (getD terms j (pos 0)) ≡ true) × ((r : ℕ) → getD sums r (pos 0) ≡ sumAt plan n (map pos z) (take i (indexList d rows)) (take i terms) r)
 
 abbrev μ-loop : tie.MeasureT-loop
 μ-loop plan d rows n z products terms sums₀ residues₀ i₀ i-end sums residues i = length terms - i
@@ -41,18 +43,18 @@ ready : (c : tie.After-row-at Inv-loop μ-loop) → RowReady (start (c .before .
 ready c =
     let s = start (c .before .before) in
     let a = s .args in
-    ready-row (a .d) (a .rows .now) (a .n) (a .z .now) (a .products .now) (c .before .before .loop .i) (s .pre .0) (row (c .before)) (c .row-at .result .now) (c .row-at .ensures .0)
+    row-ready (a .d) (a .rows .now) (a .n) (a .z .now) (a .products .now) (c .before .before .loop .i) (s .pre .0) (row (c .before)) (c .row-at .result .now) (c .row-at .ensures .0)
 
--- its term, as the call reads it, and the term's size
+-- its term, as the call reads it, and that it has 32 bits
 term : (c : tie.After-long Inv-loop μ-loop) → toZ w64 (ofZ w64 (c .long .result)) ≡ getD (start (c .before .before .before .before .before .before .before) .args .terms .now) (c .before .before .before .before .before .before .before .loop .i) (pos 0)
 term c =
     let at = c .before .before .before .before .before .before .before in
     passed (getD (start at .args .terms .now) (at .loop .i) (pos 0)) (c .long .result) (c .before .long-arg .given) (c .long .ensures)
 
-small : (c : tie.After-long Inv-loop μ-loop) → natAbs (getD (start (c .before .before .before .before .before .before .before) .args .terms .now) (c .before .before .before .before .before .before .before .loop .i) (pos 0)) ≤ 2147483648
-small c =
+narrow : (c : tie.After-long Inv-loop μ-loop) → in32 (getD (start (c .before .before .before .before .before .before .before) .args .terms .now) (c .before .before .before .before .before .before .before .loop .i) (pos 0)) ≡ true
+narrow c =
     let at = c .before .before .before .before .before .before .before in
-    abs-in32 (getD (start at .args .terms .now) (at .loop .i) (pos 0)) (c .before .long-arg .given)
+    mag-in32 (getD (start at .args .terms .now) (at .loop .i) (pos 0)) (c .before .long-arg .given)
 
 -- the sums of the rows before it
 before-small : (c : tie.In-loop Inv-loop μ-loop) (r : ℕ) → natAbs (getD (c .before .loop .sums) r (pos 0)) ≤ 511 * (64 * 2147483648)
@@ -88,7 +90,7 @@ row-at-requires : tie.Need-row-at-requires Inv-loop μ-loop
 row-at-requires c κs =
     let s = start (c .before) in
     let a = s .args in
-    row-room (a .d) (a .rows .now) (a .n) (a .z .now) (a .products .now) (c .before .loop .i) (s .pre .0) (row c)
+    row-inside (a .d) (c .before .loop .i) (a .rows .now) (row c) (s .pre .0 .whole)
 
 slice-aggregate-residues-under : tie.Need-slice-aggregate-residues-under Inv-loop μ-loop
 slice-aggregate-residues-under c = search needs
@@ -117,8 +119,8 @@ add-term-requires c κs =
     let s = start at in
     let a = s .args in
     let rs = u .last .1 .1 .1 .1 .1 .0 in (
-      shared (a .plan) (a .n) (a .z .now) (w .row-at .result .now) (take (u .result) rs) (u .ensures .0)
-          (s .pre .0 .modulus .low) (ready w .few-axes) (toZ w64 (ofZ w64 (g .long .result))) (rw (term g) (small g))
+      addable (a .plan) (a .n) (a .z .now) (w .row-at .result .now) (take (u .result) rs) (u .ensures .0)
+          (s .pre .0 .modulus .low) (ready w .few-axes) (toZ w64 (ofZ w64 (g .long .result))) (rw (term g) (in32-small (getD (a .terms .now) (at .loop .i) (pos 0)) (narrow g)))
           (at .loop .sums) (at .loop .inv .1) (before-small (w .before)),
       omega (arith, u .ensures .3, u .kept .1 .1 .1 .1 .1 .0, at .loop .inv .2),
     )
@@ -145,12 +147,12 @@ loop-again c =
       omega (arith, w .before .loop-test .taken),
       c .before .add-term .kept .1 .1 .1 .0 ∙ v .1,
       u .kept .1 .1 .1 .1 .1 .0 ∙ v .2,
-      below-more (λ j. natAbs (getD (a .terms .now) j (pos 0)) ≤ 2147483648) i (v .3) (small g),
+      below-more (λ j. in32 (getD (a .terms .now) j (pos 0)) ≡ true) i (v .3) (narrow g),
       λ r. sums-more (a .plan) (a .n) (map pos (a .z .now)) ks (a .terms .now) i
           (omega (arith, row (w .before), rows-length (a .d) (rowCount (a .d) (a .rows .now)) (a .rows .now))) (w .before .loop-test .taken) r
           (toZ w64 (ofZ w64 (g .long .result))) (getD (at .loop .sums) r (pos 0)) (getD (c .before .add-term .last .1 .1 .1 .0) r (pos 0)) (occurrences r rs)
           (term g)
-          (occurrences-are (a .plan) (a .n) (a .z .now) k rs (u .ensures .0) r ∙ ap (copiesAt (a .plan) (a .n) (map pos (a .z .now)) r) (row-number (a .d) (a .rows .now) (a .n) (a .z .now) (a .products .now) i (s .pre .0) (row (w .before)) k (w .row-at .ensures .0)))
+          (occurrences-are (a .plan) (a .n) (a .z .now) k rs (u .ensures .0) r ∙ ap (copiesAt (a .plan) (a .n) (map pos (a .z .now)) r) (row-number (a .d) (a .rows .now) i (row (w .before)) k (w .row-at .ensures .0)))
           (v .4 r)
           (c .before .add-term .ensures r),
     )
@@ -162,10 +164,12 @@ returns : tie.Need-returns Inv-loop μ-loop
 returns c =
     let s = start (c .before) in
     let a = s .args in
-    let v = c .before .loop .inv in
-    sums-all (a .plan) (a .n) (map pos (a .z .now)) (indexList (a .d) (a .rows .now)) (a .terms .now) (c .before .loop .i)
-    (omega (arith, c .loop-test .left, s .pre .1 .0, rows-length (a .d) (rowCount (a .d) (a .rows .now)) (a .rows .now)))
-    (c .loop-test .left) (c .before .loop .sums) (v .1) (v .4)
+    let v = c .before .loop .inv in (
+      sums-all (a .plan) (a .n) (map pos (a .z .now)) (indexList (a .d) (a .rows .now)) (a .terms .now) (c .before .loop .i)
+          (omega (arith, c .loop-test .left, s .pre .1 .0, rows-length (a .d) (rowCount (a .d) (a .rows .now)) (a .rows .now)))
+          (c .loop-test .left) (c .before .loop .sums) (v .1) (v .4),
+      all-in32 (a .terms .now) (c .before .loop .i) (c .loop-test .left) (v .3),
+    )
 
 pub write-sums-spec : {M : Type 1} → statement M
 write-sums-spec =

@@ -16,9 +16,7 @@ use Rattle.rank1.proofs.Distinct.{member-at}
 use Rattle.rank1.proofs.UpTo.{getD-map}
 use Rattle.rank1.proofs.IndexLaws.{rows-length}
 use Rattle.rank1.proofs.TestLaws.{every-true}
-use Rattle.planner.specs.Inner.{EntryOf}
-use Rattle.planner.proofs.RuleIndex.{row-room}
-use Rattle.planner.proofs.SumSteps.{ready-row, entry-row, gather-test, gather-term, fill-more, fill-all}
+use Rattle.planner.proofs.sums.SumSteps.{gather-test, gather-term, fill-more, fill-all}
 use Rattle.planner.proofs.sums.write_terms.Statement.{statement}
 use Rattle.planner.proofs.sums.write_terms.Tie as tie
 
@@ -52,39 +50,24 @@ good c =
     every-true (gathers (a .plan) (a .n) (map pos (a .z .now)) (a .sums .now)) ks (s .pre .1 .1) (getD ks (c .before .loop .i) [])
     (member-at ks [] (c .before .loop .i) (omega (arith, row c, rows-length (a .d) (rowCount (a .d) (a .rows .now)) (a .rows .now))))
 
--- its entry is that of row i, so its sum is a place
-entry : (c : tie.After-entry-of Inv-loop μ-loop) → EntryOf (start (c .before .before .before) .args .plan) (start (c .before .before .before) .args .n) (start (c .before .before .before) .args .z .now) (here (c .before .before .before)) (c .entry-of .result .residue) (c .entry-of .result .copies)
-entry c =
-    let s = start (c .before .before .before) in
-    let a = s .args in
-    entry-row (a .d) (a .rows .now) (a .n) (a .z .now) (a .products .now) (c .before .before .before .loop .i) (s .pre .0) (row (c .before .before)) (c .before .row-at .result .now) (c .before .row-at .ensures .0) (a .plan) (c .entry-of .result .residue) (c .entry-of .result .copies) (c .entry-of .ensures)
-
-inside : (c : tie.After-wide Inv-loop μ-loop) → c .wide .result < length (start (c .before .before .before .before) .args .sums .now)
+-- its sum is a place
+inside : (c : tie.After-wide Inv-loop μ-loop) → c .wide .result < length (start (c .before .before .before) .args .sums .now)
 inside c =
-    omega (arith, c .wide .ensures, entry (c .before) .inside, start (c .before .before .before .before) .pre .1 .0 .0)
+    omega (arith, c .wide .ensures, c .before .entry-at .ensures .inside, start (c .before .before .before) .pre .1 .0 .0)
 
 -- what is stored is its term
-stored : (c : tie.After-quotient-of Inv-loop μ-loop) → toZ w32 (ofZ w32 (c .quotient-of .result)) ≡ gatheredTerm (start (c .before .before .before .before .before .before) .args .plan) (start (c .before .before .before .before .before .before) .args .n) (map pos (start (c .before .before .before .before .before .before) .args .z .now)) (start (c .before .before .before .before .before .before) .args .sums .now) (here (c .before .before .before .before .before .before))
+stored : (c : tie.After-quotient-of Inv-loop μ-loop) → toZ w32 (ofZ w32 (c .quotient-of .result)) ≡ gatheredTerm (start (c .before .before .before .before .before) .args .plan) (start (c .before .before .before .before .before) .args .n) (map pos (start (c .before .before .before .before .before) .args .z .now)) (start (c .before .before .before .before .before) .args .sums .now) (here (c .before .before .before .before .before))
 stored c =
     let w = c .before .before in
-    let at = w .before .before .before .before in
+    let at = w .before .before .before in
     let a = start at .args in
-    gather-term (a .plan) (a .n) (a .z .now) (here at) (w .before .entry-of .result .residue) (w .before .entry-of .result .copies) (entry (w .before)) (a .sums .now) (w .wide .result) (w .wide .ensures) (c .before .quotient-of-arg .given) (c .quotient-of .result) (c .quotient-of .ensures) (good (w .before .before .before))
+    gather-term (a .plan) (a .n) (a .z .now) (here at) (w .before .entry-at .result .residue) (w .before .entry-at .result .copies) (w .before .entry-at .ensures) (a .sums .now) (w .wide .result) (w .wide .ensures) (c .before .quotient-of-arg .given) (c .quotient-of .result) (c .quotient-of .ensures) (good (w .before .before))
 
 loop-holds : tie.Need-loop-holds Inv-loop μ-loop
 loop-holds c = (zero-le, c .before .before .pre .1 .0 .1, refl)
 
-row-at-requires : tie.Need-row-at-requires Inv-loop μ-loop
-row-at-requires c κs =
-    let s = start (c .before) in
-    let a = s .args in
-    row-room (a .d) (a .rows .now) (a .n) (a .z .now) (a .products .now) (c .before .loop .i) (s .pre .0) (row c)
-
-entry-of-requires : tie.Need-entry-of-requires Inv-loop μ-loop
-entry-of-requires c κs =
-    let s = start (c .before .before) in
-    let a = s .args in
-    ready-row (a .d) (a .rows .now) (a .n) (a .z .now) (a .products .now) (c .before .before .loop .i) (s .pre .0) (row (c .before)) (c .row-at .result .now) (c .row-at .ensures .0)
+entry-at-requires : tie.Need-entry-at-requires Inv-loop μ-loop
+entry-at-requires c κs = (start (c .before) .pre .0, row c)
 
 wide-requires : tie.Need-wide-requires Inv-loop μ-loop
 wide-requires c κs = search needs
@@ -98,34 +81,34 @@ shared-slice-copy-out-quotient-of c = inside c
 quotient-of-requires : tie.Need-quotient-of-requires Inv-loop μ-loop
 quotient-of-requires c κs =
     let w = c .before in
-    let at = w .before .before .before .before in
+    let at = w .before .before .before in
     let a = start at .args in
-    let e = entry (w .before) in (
+    let e = w .before .entry-at .ensures in (
       e .some,
       e .few,
-      gather-test (a .plan) (a .n) (a .z .now) (here at) (w .before .entry-of .result .residue) (w .before .entry-of .result .copies) e (a .sums .now) (w .wide .result) (w .wide .ensures) (c .quotient-of-arg .given) ∙ good (w .before .before .before),
+      gather-test (a .plan) (a .n) (a .z .now) (here at) (w .before .entry-at .result .residue) (w .before .entry-at .result .copies) e (a .sums .now) (w .wide .result) (w .wide .ensures) (c .quotient-of-arg .given) ∙ good (w .before .before),
     )
 
-mul-t19 : tie.Need-mul-t19 Inv-loop μ-loop
-mul-t19 c = search needs
+mul-t18 : tie.Need-mul-t18 Inv-loop μ-loop
+mul-t18 c = search needs
 
 slice-set-from-terms : tie.Need-slice-set-from-terms Inv-loop μ-loop
 slice-set-from-terms c =
-    let r = c .before .before .before .before .before in
+    let r = c .before .before .before .before in
     omega (arith, row r, r .before .loop .inv .1)
 
 add-i : tie.Need-add-i Inv-loop μ-loop
 add-i c = search needs
 
 loop-less : tie.Need-loop-less Inv-loop μ-loop
-loop-less c = omega (arith, row (c .before .before .before .before .before))
+loop-less c = omega (arith, row (c .before .before .before .before))
 
 loop-again : tie.Need-loop-again Inv-loop μ-loop
 loop-again c =
-    let at = c .before .before .before .before .before .before in
+    let at = c .before .before .before .before .before in
     let a = start at .args in
     let i = at .loop .i in
-    let l = row (c .before .before .before .before .before) in
+    let l = row (c .before .before .before .before) in
     let ks = indexList (a .d) (a .rows .now) in
     let size = rows-length (a .d) (rowCount (a .d) (a .rows .now)) (a .rows .now) in
     let term = gatheredTerm (a .plan) (a .n) (map pos (a .z .now)) (a .sums .now) in (
@@ -160,13 +143,12 @@ write-terms-spec =
     Inv-loop
     μ-loop
     loop-holds
-    row-at-requires
-    entry-of-requires
+    entry-at-requires
     wide-requires
     mul-quotient-of
     shared-slice-copy-out-quotient-of
     quotient-of-requires
-    mul-t19
+    mul-t18
     slice-set-from-terms
     add-i
     loop-less

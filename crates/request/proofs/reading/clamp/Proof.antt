@@ -1,10 +1,11 @@
--- `request::reading::clamp` meets its contract: a number above 255 as 256, any other with its sign.
+-- `request::reading::clamp` meets its contract: a number above 255 as 256 (clamp-large), any other with its sign
+-- (clamp-small).
 use mathlib.Core.Path.{sym, _∙_, ap}
 use mathlib.Core.Bool.{Bool}
 use mir.Facts.{toZ-ofZ}
 use borrow.Author.Needs.{needs}
 use Rattle.request.specs.Inner.{signed}
-use Rattle.request.proofs.ReadingLaws.{clamp-large, clamp-small, bits-pos, bits-neg, bits-neg-fits}
+use Rattle.request.proofs.reading.SignedLaws.{clamp-large, bits-neg, bits-neg-fits, clamp-small, bits-pos}
 use Rattle.request.proofs.reading.clamp.Statement.{statement}
 use Rattle.request.proofs.reading.clamp.Tie as tie
 

@@ -3,7 +3,7 @@ use mathlib.Core.Path.{sym}
 use borrow.Author.Needs.{needs}
 use borrow.Author.Tests.{lt-ltb, le-ltb}
 use lib.Dec.{ltb}
-use Rattle.request.proofs.ReadingLaws.{cond-true, cond-false}
+use Rattle.request.proofs.CondLaws.{cond-true, cond-false}
 use Rattle.request.proofs.reading.clamp_ceiling.Statement.{statement}
 use Rattle.request.proofs.reading.clamp_ceiling.Tie as tie
 

@@ -4,7 +4,7 @@ use Prim.Native.Nat.{_+_, _-_}
 use native.Mathlib.Omega.{arith}
 use borrow.Author.Needs.{needs}
 use borrow.Author.Tests.{not-true, not-false}
-use Rattle.request.proofs.ReadingLaws.{Counted, counted-none, counted-more, counted-all, counted-seven, digits-none, digits-end}
+use Rattle.request.proofs.reading.DigitLaws.{Counted, counted-none, counted-all, digits-end, digits-none, counted-more, counted-seven}
 use Rattle.request.proofs.reading.digit_count.Statement.{statement}
 use Rattle.request.proofs.reading.digit_count.Tie as tie
 

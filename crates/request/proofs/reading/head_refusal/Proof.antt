@@ -1,8 +1,9 @@
--- `request::reading::head_refusal` meets its contract: the tests of 1, 2 and 3 in their order.
+-- `request::reading::head_refusal` meets its contract: the tests of 1, 2 and 3 in their order (head-is).
 use mathlib.Core.Path.{refl, sym}
 use mathlib.Core.Bool.{true, false}
 use borrow.Author.Tests.{lt-ltb, le-ltb}
-use Rattle.request.proofs.ReadingLaws.{within-is, not-within-below, not-within-above, head-is}
+use Rattle.request.proofs.CondLaws.{not-within-below, not-within-above, within-is}
+use Rattle.request.proofs.reading.HeadLaws.{head-is}
 use Rattle.request.proofs.reading.head_refusal.Statement.{statement}
 use Rattle.request.proofs.reading.head_refusal.Tie as tie
 

@@ -2,7 +2,7 @@
 use mathlib.Core.Path.{sym, _∙_}
 use borrow.Author.Tests.{le-leb, lt-leb}
 use lib.Dec.{leb}
-use Rattle.request.proofs.ReadingLaws.{and-true, and-false}
+use Rattle.request.proofs.CondLaws.{and-true, and-false}
 use Rattle.request.proofs.reading.is_digit.Statement.{statement}
 use Rattle.request.proofs.reading.is_digit.Tie as tie
 

@@ -1,116 +1,98 @@
--- `request::reading::read_head` meets its contract: field after field, by what is left of line 1 (HeadLeft).
-use mathlib.Core.List.{[], _∷_}
+-- `request::reading::read_head` meets its contract. The invariant: k fields are read, and the rest of line 1 is left (HeadSoFar).
+use mathlib.Core.Path.{refl}
+use Prim.Native.Nat.{_-_}
 use borrow.Author.Needs.{needs}
-use Rattle.request.proofs.ReadingLaws.{HeadLeft, head-start, head-field, head-stop, head-end}
+use lib.ListN.{replicate}
+use Rattle.request.proofs.reading.HeadLaws.{HeadSoFar, head-start, head-more, head-stop, head-end}
 use Rattle.request.proofs.reading.read_head.Statement.{statement}
 use Rattle.request.proofs.reading.read_head.Tie as tie
 
--- with one field read
-one : (c : tie.After-plan) → HeadLeft (c .before .before .before .before .args .text .now) (c .plan .given .0 .0 ∷ []) 3 (c .plan .given .0 .1 .0)
-one c =
-    let call = c .before .before .read-field in
-    head-field (c .before .before .before .before .args .text .now) ([]) 3 0 (call .result) (c .plan .given .0 .0) (c .plan .given .0 .1 .0) (head-start (c .before .before .before .before .args .text .now)) (call .ensures) (c .plan .given .1)
+abbrev Inv-loop : tie.InvT-loop
+Inv-loop text fields₀ next₀ k₀ fields next k = HeadSoFar text fields k next
 
--- with two fields read
-two : (c : tie.After-d) → HeadLeft (c .before .before .before .before .before .before .before .before .args .text .now) (c .before .before .before .before .plan .given .0 .0 ∷ c .d .given .0 .0 ∷ []) 2 (c .d .given .0 .1 .0)
-two c =
-    let call = c .before .before .read-field2 in
-    head-field (c .before .before .before .before .before .before .before .before .args .text .now) (c .before .before .before .before .plan .given .0 .0 ∷ []) 2 (c .before .before .before .before .plan .given .0 .1 .0) (call .result) (c .d .given .0 .0) (c .d .given .0 .1 .0) (one (c .before .before .before .before)) (call .ensures) (c .d .given .1)
+abbrev μ-loop : tie.MeasureT-loop
+μ-loop text fields₀ next₀ k₀ fields next k = 4 - k
 
--- with three fields read
-three : (c : tie.After-m) → HeadLeft (c .before .before .before .before .before .before .before .before .before .before .before .before .args .text .now) (c .before .before .before .before .before .before .before .before .plan .given .0 .0 ∷ c .before .before .before .before .d .given .0 .0 ∷ c .m .given .0 .0 ∷ []) 1 (c .m .given .0 .1 .0)
-three c =
-    let call = c .before .before .read-field3 in
-    head-field (c .before .before .before .before .before .before .before .before .before .before .before .before .args .text .now) (c .before .before .before .before .before .before .before .before .plan .given .0 .0 ∷ c .before .before .before .before .d .given .0 .0 ∷ []) 1 (c .before .before .before .before .d .given .0 .1 .0) (call .result) (c .m .given .0 .0) (c .m .given .0 .1 .0) (two (c .before .before .before .before)) (call .ensures) (c .m .given .1)
+loop-holds : tie.Need-loop-holds Inv-loop μ-loop
+loop-holds c = head-start (c .before .args .text .now) (replicate 4 0) refl
 
--- with four fields read
-four : (c : tie.After-ceiling) → HeadLeft (c .before .before .before .before .before .before .before .before .before .before .before .before .before .before .before .before .args .text .now) (c .before .before .before .before .before .before .before .before .before .before .before .before .plan .given .0 .0 ∷ c .before .before .before .before .before .before .before .before .d .given .0 .0 ∷ c .before .before .before .before .m .given .0 .0 ∷ c .ceiling .given .0 .0 ∷ []) 0 (c .ceiling .given .0 .1 .0)
-four c =
-    let call = c .before .before .read-field4 in
-    head-field (c .before .before .before .before .before .before .before .before .before .before .before .before .before .before .before .before .args .text .now) (c .before .before .before .before .before .before .before .before .before .before .before .before .plan .given .0 .0 ∷ c .before .before .before .before .before .before .before .before .d .given .0 .0 ∷ c .before .before .before .before .m .given .0 .0 ∷ []) 0 (c .before .before .before .before .m .given .0 .1 .0) (call .result) (c .ceiling .given .0 .0) (c .ceiling .given .0 .1 .0) (three (c .before .before .before .before)) (call .ensures) (c .ceiling .given .1)
+separator-requires : tie.Need-separator-requires Inv-loop μ-loop
+separator-requires c κs = search needs
 
-read-field-requires : tie.Need-read-field-requires
-read-field-requires c κs = search needs
+read-field-requires : tie.Need-read-field-requires Inv-loop μ-loop
+read-field-requires c κs = c .before .before .loop .inv .line .inside
 
-enum-known-plan : tie.Need-enum-known-plan
-enum-known-plan c = search needs
+enum-known-value : tie.Need-enum-known-value Inv-loop μ-loop
+enum-known-value c = search needs
 
-enum-told : tie.Need-enum-told
+enum-told : tie.Need-enum-told Inv-loop μ-loop
 enum-told c = search needs
 
-returns : tie.Need-returns
+returns : tie.Need-returns Inv-loop μ-loop
 returns c =
-    let call = c .before .before .read-field in
-    head-stop (c .before .before .before .before .args .text .now) [] 3 0 (call .result) (head-start (c .before .before .before .before .args .text .now)) (call .ensures) (c .enum-told .given .1)
+    let call = c .before .before in
+    let turn = call .before .before in
+    let loop = turn .before .loop in
+    head-stop (turn .before .before .before .args .text .now) (loop .fields) (loop .k) (loop .next) (call .before .separator .result) (call .read-field .result)
+    (loop .inv) (turn .loop-test .taken) (call .before .separator .ensures) (call .read-field .ensures) (c .enum-told .given .1)
 
-read-field-requires-2 : tie.Need-read-field-requires-2
-read-field-requires-2 c κs = one (c .before) .inside
+mul-fields : tie.Need-mul-fields Inv-loop μ-loop
+mul-fields c = search needs
 
-enum-known-d : tie.Need-enum-known-d
-enum-known-d c = search needs
+array-write-fields : tie.Need-array-write-fields Inv-loop μ-loop
+array-write-fields c = search needs
 
-enum-told-2 : tie.Need-enum-told-2
-enum-told-2 c = search needs
+add-k : tie.Need-add-k Inv-loop μ-loop
+add-k c = search needs
 
-returns-2 : tie.Need-returns-2
+loop-less : tie.Need-loop-less Inv-loop μ-loop
+loop-less c = search needs
+
+loop-again : tie.Need-loop-again Inv-loop μ-loop
+loop-again c =
+    let value = c .before in
+    let call = value .before .before in
+    let turn = call .before .before in
+    let loop = turn .before .loop in
+    head-more (turn .before .before .before .args .text .now) (loop .fields) (loop .k) (loop .next) (call .before .separator .result) (call .read-field .result)
+    (loop .inv) (turn .loop-test .taken) (call .before .separator .ensures) (call .read-field .ensures) (value .value .given .0 .0) (value .value .given .0 .1 .0) (value .value .given .1)
+
+array-read-t15 : tie.Need-array-read-t15 Inv-loop μ-loop
+array-read-t15 c = search needs
+
+array-read-t18 : tie.Need-array-read-t18 Inv-loop μ-loop
+array-read-t18 c = search needs
+
+array-read-t21 : tie.Need-array-read-t21 Inv-loop μ-loop
+array-read-t21 c = search needs
+
+array-read-t24 : tie.Need-array-read-t24 Inv-loop μ-loop
+array-read-t24 c = search needs
+
+returns-2 : tie.Need-returns-2 Inv-loop μ-loop
 returns-2 c =
-    let call = c .before .before .read-field2 in
-    let last = c .before .before .before .before in
-    head-stop (last .before .before .before .before .args .text .now) (last .plan .given .0 .0 ∷ []) 2 (last .plan .given .0 .1 .0) (call .result) (one last) (call .ensures) (c .enum-told2 .given .1)
-
-read-field-requires-3 : tie.Need-read-field-requires-3
-read-field-requires-3 c κs = two (c .before) .inside
-
-enum-known-m : tie.Need-enum-known-m
-enum-known-m c = search needs
-
-enum-told-3 : tie.Need-enum-told-3
-enum-told-3 c = search needs
-
-returns-3 : tie.Need-returns-3
-returns-3 c =
-    let call = c .before .before .read-field3 in
-    let last = c .before .before .before .before in
-    head-stop (last .before .before .before .before .before .before .before .before .args .text .now) (last .before .before .before .before .plan .given .0 .0 ∷ last .d .given .0 .0 ∷ []) 1 (last .d .given .0 .1 .0) (call .result) (two last) (call .ensures) (c .enum-told3 .given .1)
-
-read-field-requires-4 : tie.Need-read-field-requires-4
-read-field-requires-4 c κs = three (c .before) .inside
-
-enum-known-ceiling : tie.Need-enum-known-ceiling
-enum-known-ceiling c = search needs
-
-enum-told-4 : tie.Need-enum-told-4
-enum-told-4 c = search needs
-
-returns-4 : tie.Need-returns-4
-returns-4 c =
-    let call = c .before .before .read-field4 in
-    let last = c .before .before .before .before in
-    head-stop (last .before .before .before .before .before .before .before .before .before .before .before .before .args .text .now) (last .before .before .before .before .before .before .before .before .plan .given .0 .0 ∷ last .before .before .before .before .d .given .0 .0 ∷ last .m .given .0 .0 ∷ []) 0 (last .m .given .0 .1 .0) (call .result) (three last) (call .ensures) (c .enum-told4 .given .1)
-
-returns-5 : tie.Need-returns-5
-returns-5 c =
-    let last = c .before in
-    head-end (last .before .before .before .before .before .before .before .before .before .before .before .before .before .before .before .before .args .text .now) (last .before .before .before .before .before .before .before .before .before .before .before .before .plan .given .0 .0) (last .before .before .before .before .before .before .before .before .d .given .0 .0) (last .before .before .before .before .m .given .0 .0) (last .ceiling .given .0 .0) (last .ceiling .given .0 .1 .0) (four last)
+    let loop = c .before .loop in
+    head-end (c .before .before .before .args .text .now) (loop .fields) (loop .k) (loop .next) (loop .inv) (c .loop-test .left)
 
 pub read-head-spec : {M : Type 1} → statement M
 read-head-spec =
     tie.close
     (tie.spec
+    Inv-loop
+    μ-loop
+    loop-holds
+    separator-requires
     read-field-requires
-    enum-known-plan
+    enum-known-value
     enum-told
     returns
-    read-field-requires-2
-    enum-known-d
-    enum-told-2
-    returns-2
-    read-field-requires-3
-    enum-known-m
-    enum-told-3
-    returns-3
-    read-field-requires-4
-    enum-known-ceiling
-    enum-told-4
-    returns-4
-    returns-5)
+    mul-fields
+    array-write-fields
+    add-k
+    loop-less
+    loop-again
+    array-read-t15
+    array-read-t18
+    array-read-t21
+    array-read-t24
+    returns-2)

@@ -1,12 +1,11 @@
--- `request::reading::read_number` meets its contract: no digit, too many, a superfluous zero, or a field, by the digits counted.
+-- `request::reading::read_number` meets its contract, by the digits counted: none (number-none), too many (number-many), a
+-- superfluous zero (number-padded), or a field (number-at).
 use mathlib.Core.Logic.{⊎-elim}
-use Prim.Native.Nat.{_+_}
 use native.Mathlib.Omega.{arith}
 use borrow.Author.Needs.{needs}
 use mathlib.Core.Path.{_∙_}
 use lib.ListN.{drop}
-use Rattle.request.specs.Reading.{readNumber}
-use Rattle.request.proofs.ReadingLaws.{number-none, number-long, number-padded, number-at, at-start, bad-number, got-number}
+use Rattle.request.proofs.reading.UnsignedLaws.{number-none, number-many, number-padded, at-start, number-at}
 use Rattle.request.proofs.reading.read_number.Statement.{statement}
 use Rattle.request.proofs.reading.read_number.Tie as tie
 
@@ -17,13 +16,13 @@ returns : tie.Need-returns
 returns c =
     let args = c .before .before .before .args in
     let s = drop (args .at) (args .text .now) in
-    bad-number (args .text .now) (readNumber s) (number-none s (omega arith))
+    number-none s (omega arith)
 
 returns-2 : tie.Need-returns-2
 returns-2 c =
     let args = c .before .before .before .before .args in
     let s = drop (args .at) (args .text .now) in
-    bad-number (args .text .now) (readNumber s) (number-long s (omega arith))
+    number-many s (omega arith)
 
 shared-slice-read-if4 : tie.Need-shared-slice-read-if4
 shared-slice-read-if4 c = search needs
@@ -32,7 +31,7 @@ returns-3 : tie.Need-returns-3
 returns-3 c =
     let args = c .before .before .before .before .before .before .before .args in
     let s = drop (args .at) (args .text .now) in
-    bad-number (args .text .now) (readNumber s) (number-padded s (omega arith) (at-start (args .text .now) (args .at) ∙ c .if4 .taken))
+    number-padded s (omega arith) (at-start (args .text .now) (args .at) ∙ c .if4 .taken)
 
 value-at-requires : tie.Need-value-at-requires
 value-at-requires c κs = search needs
@@ -45,10 +44,10 @@ returns-4 c =
     let args = c .before .before .before .before .before .before .args in
     let count = c .before .before .before .before .digit-count .result in
     let text = args .text .now in
-    let s = drop (args .at) text in
-    got-number text (readNumber s) (c .value-at .result) (args .at + count)
-    (number-at text (args .at) count (c .value-at .result) (c .before .before .before .before .digit-count .ensures .0) (omega arith) (omega arith) (⊎-elim (λ w more zero. w .2 .left zero) (λ w more zero. absurd (omega arith)) (c .before .if3 .came)) (c .value-at .ensures .0))
-    (omega arith)
+    record {
+      parsed = number-at text (args .at) count (c .value-at .result) (c .before .before .before .before .digit-count .ensures .0) (omega arith) (omega arith) (⊎-elim (λ w more zero. w .2 .left zero) (λ w more zero. absurd (omega arith)) (c .before .if3 .came)) (c .value-at .ensures .0);
+      inside = omega arith;
+    }
 
 pub read-number-spec : {M : Type 1} → statement M
 read-number-spec =

@@ -1,24 +1,23 @@
--- `request::reading::read_request` meets its contract: too many bytes, the form of line 1, its refusals, the rest.
-use mathlib.Core.Path.{_≡_, refl, sym, subst, _∙_}
+-- `request::reading::read_request` meets its contract: too many bytes (reading-long), the form of line 1 (reading-bad), its
+-- refusals (reading-refused), the rest (reading-rest).
+use mathlib.Core.Path.{sym, ap, subst, _∙_}
 use mathlib.Core.List.{[], _∷_}
-use Prim.Native.Nat.{_≤_}
 use native.Mathlib.Omega.{arith}
 use borrow.Author.Needs.{needs}
-use lib.ListN.{length, drop}
-use Rattle.request.specs.Reading.{got, Reading, reading, readLine, readNumber, headRefusal}
-use Rattle.request.specs.Inner.{AskedIs}
-use Rattle.request.proofs.RequestLaws.{HeadIn, head-in}
-use Rattle.request.proofs.ReadingLaws.{line1-bad, line1-got, asked-refused, reading-long, reading-bad, reading-refused, reading-rest}
+use lib.ListN.{drop}
+use Rattle.request.specs.Reading.{Reading, refused, readLine, readNumber}
+use Rattle.request.specs.Inner.{Got, LineIs, AskedIs, HeadIn}
+use Rattle.request.proofs.RequestLaws.{head-in}
+use Rattle.request.proofs.reading.AskedLaws.{reading-long, reading-bad, reading-refused, reading-rest}
 use Rattle.request.proofs.reading.read_request.Statement.{statement}
 use Rattle.request.proofs.reading.read_request.Tie as tie
 
 -- line 1 as it was read
-line : (c : tie.After-plan) → (readLine readNumber 4 (c .before .before .before .before .before .args .text .now) ≡ got (c .plan .given .0 .0 ∷ c .plan .given .0 .1 .0 ∷ c .plan .given .0 .1 .1 .0 ∷ c .plan .given .0 .1 .1 .1 .0 ∷ []) (drop (c .plan .given .0 .1 .1 .1 .1 .0) (c .before .before .before .before .before .args .text .now))) × (c .plan .given .0 .1 .1 .1 .1 .0 ≤ length (c .before .before .before .before .before .args .text .now))
+line : (c : tie.After-plan) → Got (c .before .before .before .before .before .args .text .now) (readLine readNumber 4 (c .before .before .before .before .before .args .text .now)) (c .plan .given .0 .0 ∷ c .plan .given .0 .1 .0 ∷ c .plan .given .0 .1 .1 .0 ∷ c .plan .given .0 .1 .1 .1 .0 ∷ []) (c .plan .given .0 .1 .1 .1 .1 .0)
 line c =
     let call = c .before .before in
     let text = call .before .before .before .args .text .now in
-    let v = c .plan .given .0 in
-    line1-got text (readLine readNumber 4 text) (call .read-head .result) (v .0) (v .1 .0) (v .1 .1 .0) (v .1 .1 .1 .0) (v .1 .1 .1 .1 .0) (call .read-head .ensures) (c .plan .given .1)
+    subst (LineIs text (readLine readNumber 4 text)) (c .plan .given .1) (call .read-head .ensures)
 
 -- none of its refusals applies
 clear : (c : tie.Else2) → HeadIn (c .before .before .before .plan .given .0 .0) (c .before .before .before .plan .given .0 .1 .0) (c .before .before .before .plan .given .0 .1 .1 .0)
@@ -29,7 +28,7 @@ clear c =
 returns : tie.Need-returns
 returns c =
     let args = c .before .before .args in
-    asked-refused (reading (args .text .now)) 12 12 (args .rows .now) (reading-long (args .text .now) (c .if1 .taken)) refl
+    reading-long (args .text .now) (c .if1 .taken)
 
 read-head-requires : tie.Need-read-head-requires
 read-head-requires c κs = tt
@@ -45,7 +44,7 @@ returns-2 c =
     let call = c .before .before in
     let args = call .before .before .before .args in
     let text = args .text .now in
-    asked-refused (reading text) 12 12 (args .rows .now) (reading-bad text (call .before .if1 .left) (line1-bad text (readLine readNumber 4 text) (call .read-head .result) (call .read-head .ensures) (c .enum-told .given .1))) refl
+    reading-bad text (call .before .if1 .left) (subst (LineIs text (readLine readNumber 4 text)) (c .enum-told .given .1) (call .read-head .ensures))
 
 head-refusal-requires : tie.Need-head-refusal-requires
 head-refusal-requires c κs = search needs
@@ -58,9 +57,8 @@ returns-3 c =
     let text = args .text .now in
     let short = value .before .before .before .if1 .left in
     let number = c .before .head-refusal .ensures in
-    asked-refused (reading text) (headRefusal (v .0) (v .1 .0) (v .1 .1 .0)) (c .before .head-refusal .result) (args .rows .now)
-    (reading-refused text (v .0) (v .1 .0) (v .1 .1 .0) (v .1 .1 .1 .0) (drop (v .1 .1 .1 .1 .0) text) short (line value .0) (λ e. c .if2 .taken (number ∙ e)))
-    number
+    reading-refused text (v .0) (v .1 .0) (v .1 .1 .0) (v .1 .1 .1 .0) (drop (v .1 .1 .1 .1 .0) text) short (line value .parsed) (λ e. c .if2 .taken (number ∙ e))
+    ∙ ap refused (sym number)
 
 cast-read-body : tie.Need-cast-read-body
 cast-read-body c = omega (arith, clear c .plans)
@@ -73,9 +71,8 @@ cast-read-body-3 c = omega (arith, clear c .rows .1)
 
 read-body-requires : tie.Need-read-body-requires
 read-body-requires c κs =
-    let head = clear (c .before) in
     let value = c .before .before .before .before in
-    (line value .1, head .plans, head .axes .0, head .axes .1, head .rows .0, head .rows .1, value .before .before .before .before .before .pre)
+    (line value .inside, clear (c .before), value .before .before .before .before .before .pre)
 
 same-length : tie.Need-same-length
 same-length c = search needs
@@ -90,7 +87,7 @@ returns-4 c =
     let text = args .text .now in
     let short = value .before .before .before .if1 .left in
     subst (λ (r : Reading). AskedIs r (call .read-body .last .1 .1 .1 .1 .1 .1 .0) (call .read-body .result))
-    (sym (reading-rest text (v .0) (v .1 .0) (v .1 .1 .0) (v .1 .1 .1 .0) (drop (v .1 .1 .1 .1 .0) text) short (line value .0) (sym (left .before .head-refusal .ensures) ∙ left .if2 .left)))
+    (sym (reading-rest text (v .0) (v .1 .0) (v .1 .1 .0) (v .1 .1 .1 .0) (drop (v .1 .1 .1 .1 .0) text) short (line value .parsed) (sym (left .before .head-refusal .ensures) ∙ left .if2 .left)))
     (call .read-body .ensures)
 
 pub read-request-spec : {M : Type 1} → statement M

@@ -1,12 +1,13 @@
 -- `request::reading::read_rows` meets its contract. The invariant: i rows are read and written, the rest is left (RowsSoFar).
-use mathlib.Core.Path.{_∙_}
+use mathlib.Core.Path.{_∙_, subst}
 use Prim.Native.Nat.{_+_, _*_, _-_, _≤_}
 use native.Mathlib.Nat.{mul-le-mul, mul-le-mul-right}
 use native.Mathlib.Omega.{arith}
 use borrow.Author.Needs.{needs}
 use lib.ListN.{drop}
-use Rattle.request.specs.Reading.{readLine, readSigned, readRows}
-use Rattle.request.proofs.ReadingLaws.{RowsSoFar, rows-start, rows-stop, rows-more, rows-end, run-bad, run-got, bad-run, got-run}
+use Rattle.request.specs.Reading.{readLine, readSigned}
+use Rattle.request.specs.Inner.{RunIs}
+use Rattle.request.proofs.reading.RowLaws.{RowsSoFar, rows-start, rows-stop, rows-more, rows-end}
 use Rattle.request.proofs.reading.read_rows.Statement.{statement}
 use Rattle.request.proofs.reading.read_rows.Tie as tie
 
@@ -57,9 +58,8 @@ returns c =
     let text = args .text .now in
     let new = call .read-row .last .1 .1 .1 .0 in
     let p = readLine readSigned (args .d) (drop (loop .next) text) in
-    bad-run text (readRows (args .d) (args .m) (drop (args .at) text)) 0 (args .rows .now) new
-    (rows-stop text (args .at) (args .d) (args .m) (args .rows .now) (loop .rows) (loop .i) (loop .next) (loop .inv .1) (turn .loop-test .taken)
-    (run-bad text p (loop .i * args .d) (loop .rows) new (call .read-row .result) (call .read-row .ensures) (c .enum-told .given .1)))
+    rows-stop text (args .at) (args .d) (args .m) (args .rows .now) (loop .rows) (loop .i) (loop .next) (loop .inv .1) (turn .loop-test .taken)
+    (subst (RunIs text p (loop .i * args .d) (loop .rows) new) (c .enum-told .given .1) (call .read-row .ensures))
 
 add-i : tie.Need-add-i Inv-loop μ-loop
 add-i c = omega (arith, c .before .before .before .before .before .before .loop-test .taken, c .before .before .before .before .before .before .before .before .before .fits)
@@ -80,7 +80,7 @@ loop-again c =
     let behind = value .behind .given .0 .0 in (
       omega (arith, turn .loop-test .taken),
       rows-more text (args .at) (args .d) (args .m) (args .rows .now) (loop .rows) new (loop .i) (loop .next) behind (loop .inv .1) (turn .loop-test .taken) (turn .before .before .before .pre .1) (call .read-row .kept .1 .1 .1 .0)
-          (run-got text p (loop .i * args .d) (loop .rows) new (call .read-row .result) behind (call .read-row .ensures) (value .behind .given .1)),
+          (subst (RunIs text p (loop .i * args .d) (loop .rows) new) (value .behind .given .1) (call .read-row .ensures)),
     )
 
 same-length-2 : tie.Need-same-length-2 Inv-loop μ-loop
@@ -91,8 +91,7 @@ returns-2 c =
     let loop = c .before .loop in
     let args = c .before .before .before .args in
     let text = args .text .now in
-    got-run text (readRows (args .d) (args .m) (drop (args .at) text)) 0 (args .rows .now) (loop .rows) (loop .next)
-    (rows-end text (args .at) (args .d) (args .m) (args .rows .now) (loop .rows) (loop .i) (loop .next) (loop .inv .1) (c .loop-test .left) (loop .inv .0))
+    rows-end text (args .at) (args .d) (args .m) (args .rows .now) (loop .rows) (loop .i) (loop .next) (loop .inv .1) (c .loop-test .left) (loop .inv .0)
 
 pub read-rows-spec : {M : Type 1} → statement M
 read-rows-spec =

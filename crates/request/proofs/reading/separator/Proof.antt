@@ -5,7 +5,7 @@ use borrow.Author.Needs.{needs}
 use borrow.Author.Tests.{lt-ltb, le-ltb}
 use lib.Dec.{ltb}
 use Rattle.request.specs.Text.{space, newline}
-use Rattle.request.proofs.ReadingLaws.{cond-true, cond-false}
+use Rattle.request.proofs.CondLaws.{cond-true, cond-false}
 use Rattle.request.proofs.reading.separator.Statement.{statement}
 use Rattle.request.proofs.reading.separator.Tie as tie
 

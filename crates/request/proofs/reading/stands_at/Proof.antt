@@ -4,7 +4,7 @@ use borrow.Author.Needs.{needs}
 use borrow.Author.Tests.{lt-ltb, le-ltb}
 use lib.Dec.{eqb, ltb}
 use lib.ListN.{length, getD}
-use Rattle.request.proofs.ReadingLaws.{and-true, and-false}
+use Rattle.request.proofs.CondLaws.{and-true, and-false}
 use Rattle.request.proofs.reading.stands_at.Statement.{statement}
 use Rattle.request.proofs.reading.stands_at.Tie as tie
 

@@ -4,7 +4,7 @@ use Prim.Native.Nat.{ℕ, _-_, _≤_}
 use native.Mathlib.Omega.{arith}
 use lib.ListN.{take, drop}
 use Rattle.request.specs.Text.{decimal}
-use Rattle.request.proofs.ReadingLaws.{Valued, valued-none, valued-more, valued-small, valued-room, digit-next}
+use Rattle.request.proofs.reading.DigitLaws.{Valued, valued-none, valued-room, digit-next, valued-more, valued-small}
 use Rattle.request.proofs.reading.value_at.Statement.{statement}
 use Rattle.request.proofs.reading.value_at.Tie as tie
 

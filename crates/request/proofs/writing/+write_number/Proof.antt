@@ -3,7 +3,7 @@
 use borrow.Author.Needs.{needs}
 use native.Mathlib.Omega.{arith}
 use lib.ListN.{length}
-use Rattle.request.proofs.WritingLaws.{wrote-digit, wrote-last, number-end-before}
+use Rattle.request.proofs.writing.WroteLaws.{wrote-digit, number-end-before, wrote-last}
 use Prim.Native.Nat.{ℕ, _<_}
 use borrow.Fn.Kinds.{In}
 use borrow.Fn.PlainCycle.{Measures, is, falls, and}

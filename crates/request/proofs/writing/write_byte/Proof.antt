@@ -1,6 +1,6 @@
 -- `writing::write_byte` meets its contract: one store writes one byte (wrote-byte).
 use borrow.Author.Needs.{needs}
-use Rattle.request.proofs.WritingLaws.{wrote-byte}
+use Rattle.request.proofs.writing.WroteLaws.{wrote-byte}
 use Rattle.request.proofs.writing.write_byte.Statement.{statement}
 use Rattle.request.proofs.writing.write_byte.Tie as tie
 

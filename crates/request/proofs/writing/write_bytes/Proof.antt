@@ -6,7 +6,7 @@ use borrow.Author.Needs.{needs}
 use native.Mathlib.Omega.{arith}
 use lib.ListN.{length, getD, take, length-set}
 use Rattle.request.specs.Inner.{Wrote}
-use Rattle.request.proofs.WritingLaws.{wrote-none, wrote-next, wrote-whole}
+use Rattle.request.proofs.writing.WroteLaws.{wrote-none, wrote-next, wrote-whole}
 use Rattle.request.proofs.writing.write_bytes.Statement.{statement}
 use Rattle.request.proofs.writing.write_bytes.Tie as tie
 

@@ -6,7 +6,8 @@ use borrow.Author.Needs.{needs}
 use lib.ListN.{length, getD, take}
 use Rattle.request.specs.Answer.{mapText}
 use Rattle.request.specs.Inner.{Wrote}
-use Rattle.request.proofs.WritingLaws.{wrote-none, number-end, wrote-line, wrote-map}
+use Rattle.request.proofs.writing.TextSteps.{wrote-line, wrote-map}
+use Rattle.request.proofs.writing.WroteLaws.{wrote-none, number-end}
 use Rattle.request.proofs.writing.write_map.Statement.{statement}
 use Rattle.request.proofs.writing.write_map.Tie as tie
 

@@ -3,7 +3,7 @@ use native.Mathlib.Omega.{arith}
 use borrow.Author.Needs.{needs}
 use Rattle.request.specs.Text.{numberText}
 use Rattle.request.specs.Answer.{vectorText}
-use Rattle.request.proofs.WritingLaws.{wrote-more, number-end}
+use Rattle.request.proofs.writing.WroteLaws.{number-end, wrote-more}
 use Rattle.request.proofs.writing.write_plan.Statement.{statement}
 use Rattle.request.proofs.writing.write_plan.Tie as tie
 

@@ -7,7 +7,7 @@ use lib.ListN.{length}
 use Rattle.request.specs.Text.{newline, numberText}
 use Rattle.request.specs.Answer.{refusedWord}
 use Rattle.request.specs.Inner.{Wrote}
-use Rattle.request.proofs.WritingLaws.{wrote-more, number-end}
+use Rattle.request.proofs.writing.WroteLaws.{wrote-more, number-end}
 use Rattle.request.proofs.writing.write_refusal.Statement.{statement}
 use Rattle.request.proofs.writing.write_refusal.Tie as tie
 

@@ -6,7 +6,9 @@ use native.Mathlib.Omega.{arith}
 use borrow.Author.Needs.{needs}
 use lib.ListN.{length, getD, take}
 use Rattle.request.specs.Inner.{Wrote}
-use Rattle.request.proofs.WritingLaws.{wrote-none, number-end, componentsText, wrote-component, wrote-vector}
+use Rattle.request.proofs.AnswerTextLaws.{componentsText}
+use Rattle.request.proofs.writing.TextSteps.{wrote-component, wrote-vector}
+use Rattle.request.proofs.writing.WroteLaws.{wrote-none, number-end}
 use Rattle.request.proofs.writing.write_vector.Statement.{statement}
 use Rattle.request.proofs.writing.write_vector.Tie as tie
 

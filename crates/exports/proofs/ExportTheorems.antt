@@ -1,0 +1,84 @@
+-- Theorems of the exports, over their contracts alone: 0 is returned exactly where nothing is refused; a refused search leaves z and
+-- the place for the modulus as they were; and a call has one outcome, refused or not.
+use mathlib.Core.Path.{_≡_, refl, sym, ap, subst, _∙_}
+use mathlib.Core.Bool.{Bool, true, false}
+use mathlib.Core.List.{List}
+use Prim.Native.Nat.{ℕ, zero, suc}
+use native.Mathlib.Omega.{arith}
+use lib.IntN.{ℤ}
+use lib.ListN.{length}
+use Rattle.rank1.specs.Index.{indexList}
+use Rattle.rank1.specs.Rule.{Admissible}
+use Rattle.rank1.specs.Search.{First, Smallest}
+use Rattle.rank1.specs.Refusal.{searchRefusal}
+use Rattle.planner.specs.declared.Verdict.{Verdict}
+use Rattle.planner.specs.declared.Plan.{Plan}
+use Rattle.planner.specs.declared.Plan.the-variants.{Found, Refused}
+use Rattle.planner.specs.Answer.{verdict, refusalNumber, RefusedOr, FirstOrNone, SmallestOrNone, VectorSearch, SmallestSearch}
+use Rattle.planner.proofs.SearchTheorems.{Same, search-vector-determined, search-smallest-determined, search-vector-keeps, search-smallest-keeps}
+use Rattle.exports.specs.Numbers.{refusalIn, CheckTold, modulusOr, PlanTold}
+
+-- ---- the check
+-- it returns the number of the condition that applies
+pub check-number : (k : ℕ) (b : Bool) → refusalIn (verdict k b) ≡ k
+check-number zero true = refl
+check-number zero false = refl
+check-number (suc k) b = refl
+
+-- two outcomes are the same number and the same content of the place
+pub check-determined : (answer : Verdict) (before after after′ r r′ : ℕ) → CheckTold answer before after r → CheckTold answer before after′ r′ → (r ≡ r′) × (after ≡ after′)
+check-determined answer before after after′ r r′ p q = (p .number ∙ sym (q .number), p .place ∙ sym (q .place))
+
+-- ---- 0 of a search
+-- Answers is the relation of one where conditions 1 to 8 do not apply, and nine says that it refuses by 9 alone
+module _ (Answers : Plan → Type 0) (nine : (k : ℕ) → Answers (Refused k) → k ≡ 9) (before after : List ℕ) where
+  -- with 0, the number in the place is the modulus of a plan that meets the relation
+  plan-of : (k p p′ : ℕ) (answer : Plan) → RefusedOr k before after answer (Answers answer) → refusalNumber answer ≡ 0 → p′ ≡ modulusOr p answer → Answers (Found p′)
+  plan-of zero p p′ (Found n) a e place = subst (λ m. Answers (Found m)) (sym place) a
+  plan-of zero p p′ (Refused k) a e place = absurd (let z : _≡_ {A = ℕ} 0 9 = sym e ∙ nine k a in omega arith)
+  plan-of (suc k) p p′ answer a e place = absurd (let z : _≡_ {A = ℕ} 0 (suc k) = sym e ∙ ap refusalNumber (a .0) in omega arith)
+
+  plan-at-zero : (k p p′ r : ℕ) → PlanTold (λ answer. RefusedOr k before after answer (Answers answer)) p p′ r → r ≡ 0 → Answers (Found p′)
+  plan-at-zero k p p′ r x e = plan-of k p p′ (x .answer) (x .meets) (sym (x .number) ∙ e) (x .place)
+
+module _ (plan d : ℕ) (xs : List ℤ) (n : ℕ) (before after : List ℕ) (p p′ r : ℕ) where
+  -- 0 of the vector search means the first vector at n, with n in the place
+  pub vector-at-zero : PlanTold (VectorSearch plan d xs n before after) p p′ r → r ≡ 0 → (p′ ≡ n) × First (Admissible plan (indexList d xs)) d n after
+  vector-at-zero = plan-at-zero (FirstOrNone (Admissible plan (indexList d xs)) d n before after) (λ k a. a .0) before after (searchRefusal plan d xs n (length before)) p p′ r
+
+  -- and 0 of the other the smallest plan up to the ceiling n, with its modulus in the place
+  pub smallest-at-zero : PlanTold (SmallestSearch plan d xs n before after) p p′ r → r ≡ 0 → Smallest (Admissible plan (indexList d xs)) d n p′ after
+  smallest-at-zero = plan-at-zero (SmallestOrNone (Admissible plan (indexList d xs)) d n before after) (λ k a. a .0) before after (searchRefusal plan d xs n (length before)) p p′ r
+
+-- ---- another number of a search
+-- the place is as it was, and so is z, where its promise keeps z with a refusal
+kept-of : (Promise : Plan → Type 0) (before after : List ℕ) (p p′ : ℕ) (answer : Plan) → ((k : ℕ) → Promise (Refused k) → after ≡ before) → Promise answer → (refusalNumber answer ≡ 0 → ⊥) → p′ ≡ modulusOr p answer → (after ≡ before) × (p′ ≡ p)
+kept-of Promise before after p p′ (Found n) keeps meets some place = absurd (some refl)
+kept-of Promise before after p p′ (Refused k) keeps meets some place = (keeps k meets, place)
+
+told-kept : (Promise : Plan → Type 0) (before after : List ℕ) (p p′ r : ℕ) → ((k : ℕ) → Promise (Refused k) → after ≡ before) → PlanTold Promise p p′ r → (r ≡ 0 → ⊥) → (after ≡ before) × (p′ ≡ p)
+told-kept Promise before after p p′ r keeps x some =
+    kept-of Promise before after p p′ (x .answer) keeps (x .meets) (λ e. some (x .number ∙ e)) (x .place)
+
+module _ (plan d : ℕ) (xs : List ℤ) (n : ℕ) (before after : List ℕ) (p p′ r : ℕ) where
+  pub vector-kept : PlanTold (VectorSearch plan d xs n before after) p p′ r → (r ≡ 0 → ⊥) → (after ≡ before) × (p′ ≡ p)
+  vector-kept = told-kept (VectorSearch plan d xs n before after) before after p p′ r (search-vector-keeps plan d xs n before after)
+
+  pub smallest-kept : PlanTold (SmallestSearch plan d xs n before after) p p′ r → (r ≡ 0 → ⊥) → (after ≡ before) × (p′ ≡ p)
+  smallest-kept = told-kept (SmallestSearch plan d xs n before after) before after p p′ r (search-smallest-keeps plan d xs n before after)
+
+-- ---- one outcome: the number, the content of z and that of the place
+told-determined : {Promise Promise′ : Plan → Type 0} (after after′ : List ℕ) (p p′ p″ r r′ : ℕ) → ((a a′ : Plan) → Promise a → Promise′ a′ → Same a a′ after after′) → PlanTold Promise p p′ r → PlanTold Promise′ p p″ r′ → (r ≡ r′) × (after ≡ after′) × (p′ ≡ p″)
+told-determined after after′ p p′ p″ r r′ one x y =
+    let same = one (x .answer) (y .answer) (x .meets) (y .meets) in (
+      x .number ∙ ap refusalNumber (same .0) ∙ sym (y .number),
+      same .1,
+      x .place ∙ ap (modulusOr p) (same .0) ∙ sym (y .place),
+    )
+
+module _ (plan d : ℕ) (xs : List ℤ) (n : ℕ) (before after after′ : List ℕ) (p p′ p″ r r′ : ℕ) where
+  pub vector-told-determined : PlanTold (VectorSearch plan d xs n before after) p p′ r → PlanTold (VectorSearch plan d xs n before after′) p p″ r′ → (r ≡ r′) × (after ≡ after′) × (p′ ≡ p″)
+  vector-told-determined = told-determined after after′ p p′ p″ r r′ (search-vector-determined plan d xs n before after after′)
+
+  pub smallest-told-determined : PlanTold (SmallestSearch plan d xs n before after) p p′ r → PlanTold (SmallestSearch plan d xs n before after′) p p″ r′ → (r ≡ r′) × (after ≡ after′) × (p′ ≡ p″)
+  smallest-told-determined = told-determined after after′ p p′ p″ r r′ (search-smallest-determined plan d xs n before after after′)

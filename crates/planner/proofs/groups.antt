@@ -1,0 +1,2 @@
+-- Laws of the groups.
+pub mod GroupSteps

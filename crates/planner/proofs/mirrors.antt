@@ -1,0 +1,2 @@
+-- Laws of the residues of a row's mirrors.
+pub mod MirrorResidues

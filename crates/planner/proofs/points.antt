@@ -1,0 +1,2 @@
+-- Laws of the lines of the point list.
+pub mod PointSteps

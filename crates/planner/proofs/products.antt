@@ -1,0 +1,2 @@
+-- Laws of the product tables.
+pub mod ProductLaws

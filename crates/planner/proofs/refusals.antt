@@ -1,0 +1,2 @@
+-- Laws of the refusals: what a call that is not refused was handed.
+pub mod HandedLaws

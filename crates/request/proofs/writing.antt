@@ -1,0 +1,3 @@
+-- Laws that the proofs of the writing functions cite.
+pub mod WroteLaws
+pub mod TextSteps
