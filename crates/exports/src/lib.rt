@@ -2,8 +2,9 @@
 // the refusal, 0 for none. What a call finds beside that, yes or no or the modulus, goes to a lent place, which keeps its content
 // where the call is refused.
 
-ghost use Rattle.planner.specs.Answer.{checkAnswer, ResidueMapCall, SpreadCall, GatherCall, PointListCall, VectorSearch, SmallestSearch};
-ghost use Rattle.exports.specs.Numbers.{CheckTold, PlanTold};
+ghost use mathlib.Core.Path.{_≡_};
+ghost use Rattle.planner.specs.Answer.{checkAnswer, ResidueMapCall, SpreadCall, GatherCall, PointListCall, refusalNumber, VectorSearch, SmallestSearch};
+ghost use Rattle.exports.specs.Numbers.{CheckTold, modulusOr, PlanTold};
 
 // Whether the pair n, z meets the rule of the plan for the rows: `yes` then holds 1 or 0.
 #[no_mangle]
@@ -85,6 +86,17 @@ pub extern "C" fn planner_point_list(plan: u8, d: usize, n: u16, z: &[u16], out:
     planner::point_list(plan, d, n, z, out)
 }
 
+// The number of a search's refusal, 0 where there is a plan, whose modulus then stands in `found`.
+fn tell_plan(answer: planner::Plan, found: &mut u16) -> u8
+    ensures { λ r. ⌜ (r ≡ refusalNumber answer) × (now (found .exit) ≡ modulusOr (now (found .entry)) answer) ⌝ }
+{
+    let planner::Plan::Found(modulus) = answer else {
+        return planner::refusal_of(answer);
+    };
+    *found = modulus;
+    0
+}
+
 // The first admissible vector at n in dictionary order: it then stands in z, and n in `found`.
 #[no_mangle]
 pub extern "C" fn planner_search_vector(
@@ -97,12 +109,7 @@ pub extern "C" fn planner_search_vector(
 ) -> u8
     ensures { λ r. ⌜ PlanTold (VectorSearch plan d (now (rows .entry)) n (now (z .entry)) (now (z .exit))) (now (found .entry)) (now (found .exit)) r ⌝ }
 {
-    let first = planner::search_vector(plan, d, rows, n, z);
-    let planner::Plan::Found(modulus) = first else {
-        return planner::refusal_of(first);
-    };
-    *found = modulus;
-    0
+    tell_plan(planner::search_vector(plan, d, rows, n, z), found)
 }
 
 // The smallest plan up to the ceiling: its vector then stands in z, and its modulus in `found`.
@@ -117,10 +124,5 @@ pub extern "C" fn planner_search_smallest(
 ) -> u8
     ensures { λ r. ⌜ PlanTold (SmallestSearch plan d (now (rows .entry)) ceiling (now (z .entry)) (now (z .exit))) (now (found .entry)) (now (found .exit)) r ⌝ }
 {
-    let smallest = planner::search_smallest(plan, d, rows, ceiling, z);
-    let planner::Plan::Found(least) = smallest else {
-        return planner::refusal_of(smallest);
-    };
-    *found = least;
-    0
+    tell_plan(planner::search_smallest(plan, d, rows, ceiling, z), found)
 }
