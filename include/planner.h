@@ -29,8 +29,8 @@
  *
  * What the caller owes
  *   Every pointer is aligned and not null, also where its length is 0, and points to as many elements as its length says. What a
- *   call may write overlaps nothing else that it is passed, and nothing else touches the memory until it returns. A call takes less
- *   than 256 KiB of stack. The calls keep no state: different threads may call at once.
+ *   call may write overlaps nothing else that it is passed, and nothing else touches the memory until it returns. A search takes
+ *   less than 1.5 MiB of stack, any other call less than 256 KiB. The calls keep no state: different threads may call at once.
  */
 #ifndef PLANNER_H
 #define PLANNER_H

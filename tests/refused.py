@@ -34,7 +34,7 @@ SAMPLES = (
     (True, "computed as far as they go, the two types are `Prim.⊥` (expected) and `Prim.Unit {?ℓ1}` (found)"),
     (True, "as printed, the two types first differ where one has `_<_` (expected)\n  expected type `_<_ (?11 c) (c .loop .n)`, but this has type `_≤_ 1 (c .loop .n)`"),
     (True, "`omega`: the goal does not follow from what it read. All of that holds, and the goal fails, at `a` = 0."),
-    (True, "`search`: no proof of `_≡_ (getD (c .args .shape) 7 0) 0`\n  was found."),
+    (True, "`search`: no proof of `_≡_ (getD (c .args .flips) 3 0) 0`\n  was found."),
     # it follows from another error: a declaration that this one uses was refused
     (False, "`returns` was not admitted (it has holes or undetermined implicits, or was rejected), so this cannot be checked"),
     # the proof no longer fits: a rewrite does not find its term or leaves two sides that differ, a step gets something of another form,

@@ -11,6 +11,8 @@ Several of these may stand on one command line (pack FILE expect FILE list DIR);
 """
 
 import itertools
+import math
+import operator
 import os
 import random
 import sys
@@ -30,8 +32,9 @@ import large
 #   4    15,333     0.11     0.20
 #   5     4,425     0.02     0.03
 #   6     4,890     0.02     0.03
-# The whole of it, `costs` says by kind; it took about 40 s. The dearest single request is total degree 2 on three axes, plan 4: 4.6 s.
+# The whole of it, `costs` says by kind; it took about 45 s. The dearest single request is total degree 2 on three axes, plan 4: 4.6 s.
 LARGEST = {1: 300, 2: 40, 3: 16, 4: 9, 5: 5, 6: 4}
+EASY = {1: 60, 2: 24, 3: 11, 4: 7}                       # the same where many lists are drawn for one that is kept
 
 # The most rows of a random list, for each plan by d; plans 2 and 3 have fewer because mirrors fill the residues up.
 MOST_ROWS = {
@@ -100,16 +103,16 @@ def is_lower(rows):
     return True
 
 
-def fits(plan, rows):
+def fits(plan, rows, reach=LARGEST):
     """Whether counting leaves hope for an answer the brute force can reach; only to save time, it decides no answer."""
     needed = len(brute.all_mirrors(rows)) if plan == 2 else 2 * len(rows) - 1 if plan == 3 else len(rows) if plan else 1
-    return needed <= LARGEST[len(rows[0])]
+    return needed <= reach[len(rows[0])]
 
 
-def plan_of(plan, rows):
+def plan_of(plan, rows, reach=LARGEST):
     """The smallest plan within the brute force's reach, or None."""
     try:
-        return brute.smallest(plan, rows, LARGEST[len(rows[0])])
+        return brute.smallest(plan, rows, reach[len(rows[0])])
     except brute.Refused:
         return None
 
@@ -376,6 +379,179 @@ def many_rows():
     return requests
 
 
+# Lists for the search by differences: each rule says that no difference of two rows or mirrors that the plan keeps apart has residue 0.
+
+def upright(row):
+    """Of a row and its negative the one whose last component that is not zero is above 0; None for the zero row."""
+    for component in reversed(row):
+        if component:
+            return row if component > 0 else tuple(-x for x in row)
+    return None
+
+
+def differences(plan, rows):
+    """The differences that the rule forbids to have residue 0, each or its negative once. Plan 0: the rows themselves."""
+    zero = (0,) * len(rows[0])
+    pairs = [(k, zero) for k in rows] if plan == 0 else brute.forbidden_pairs(plan, rows)
+    return {upright(tuple(map(operator.sub, a, b))) for a, b in pairs} - {None}
+
+
+def open_axes(plan, rows):
+    """The axes whose sign change leads out of the differences."""
+    known = differences(plan, rows)
+    return [j for j in range(len(rows[0])) if any(upright(h[:j] + (-h[j],) + h[j + 1:]) not in known for h in known)]
+
+
+def last_components(plan, rows):
+    """The last components, without the zeros behind them, of the differences."""
+    return [next(x for x in reversed(h) if x) for h in differences(plan, rows)]
+
+
+def draw_few(rng, plan, d):
+    """Two to five small rows."""
+    return draw_rows(rng, d, rng.randrange(2, 6), 3, ZEROS[plan], plan <= 1)
+
+
+def draw_single_axis(rng, plan, d):
+    """Rows with one component that is not zero: their differences are closed under the sign of every axis."""
+    rows = [(0,) * j + (x,) + (0,) * (d - j - 1) for j in range(d) for x in rng.sample(range(1, 7), rng.randrange(1, 4))]
+    return tuple(rng.sample(rows, rng.randrange(2, min(len(rows), MOST_ROWS[plan][d]) + 1)))
+
+
+def above_half(plan, rows, n, z):
+    """Whether a component is above n/2 on an axis whose sign change leads out of the differences."""
+    return any(2 * z[j] > n for j in open_axes(plan, rows))
+
+
+def draw_with_axis(rng, plan, d):
+    """A few rows on d - 1 axes whose answer is above half, and one or two rows on one more axis alone, so that its sign is closed."""
+    found = None
+    while found is None or not above_half(plan, rows, *found):
+        rows = draw_few(rng, plan, d - 1)
+        found = plan_of(plan, rows, {d - 1: EASY[d]})
+    axis = rng.randrange(d)
+    alone = [(0,) * axis + (x,) + (0,) * (d - axis - 1) for x in rng.sample(range(1, 4), rng.randrange(1, 3))]
+    return tuple(row[:axis] + (0,) + row[axis:] for row in rows) + tuple(alone)
+
+
+def draw_mirrored(rng, plan, d):
+    """A few rows of any sign and their mirrors on some axes."""
+    axes = rng.sample(range(d), rng.randrange(1, d + 1))
+    moves = [lambda row, j=j: row[:j] + (-row[j],) + row[j + 1:] for j in axes]
+    return close(rng, draw_rows(rng, d, rng.randrange(1, 4), 4, 0.3, True), moves)
+
+
+def keep(rng, plan, d, count, draw, wanted):
+    """Requests for the first `count` lists drawn that have an answer in easy reach and are `wanted`, given the list and n and z once known."""
+    requests = []
+    kept = set()
+    while len(kept) < count:
+        rows = draw(rng, plan, d)
+        if rows in kept or not fits(plan, rows, EASY) or not wanted(plan, rows):
+            continue
+        found = plan_of(plan, rows, EASY)
+        if found is not None and wanted(plan, rows, *found):
+            kept.add(rows)
+            requests.append(large.ticket(plan, rows, rng.choice((found[0], 8192))))
+            requests.append(large.ticket(plan, rows, found[0] - 1))
+    return requests
+
+
+def sign_changes():
+    """Lists whose differences are closed under the sign of every axis, of some and of none. On an axis that is not, the answer has a
+    component above n/2, so that it is missed where that axis is taken for closed."""
+    rng = random.Random(116)
+
+    def closed(plan, rows, n=None, z=None):
+        return not open_axes(plan, rows)
+
+    def half_closed(plan, rows, n=None, z=None):
+        return 0 < len(open_axes(plan, rows)) < len(rows[0]) and (n is None or above_half(plan, rows, n, z))
+
+    def not_closed(plan, rows, n=None, z=None):
+        return len(open_axes(plan, rows)) == len(rows[0]) and (n is None or above_half(plan, rows, n, z))
+
+    requests = []
+    for plan in range(5):
+        for d in (2, 3):
+            requests += keep(rng, plan, d, 2, draw_mirrored if plan <= 1 else draw_single_axis, closed)
+            if plan != 2:                                # plan A keeps all mirrors apart: always closed
+                requests += keep(rng, plan, d, 2, draw_few, not_closed)
+            if plan != 2 and d == 3:                     # on two axes both are closed, or neither
+                requests += keep(rng, plan, d, 3, draw_mirrored if plan <= 1 else draw_with_axis, half_closed)
+    return requests
+
+
+def shared_factors():
+    """Rows of components 2, 3, 4 and 6: the answer is composite and shares a factor with last components. The values that such a
+    difference forbids are several, or none."""
+    rng = random.Random(117)
+
+    def draw(rng, plan, d):
+        signs = (1, -1) if plan <= 1 else (1,)
+        rows = [tuple(rng.choice((0, 2, 3, 4, 6)) * rng.choice(signs) for _ in range(d)) for _ in range(rng.randrange(2, MOST_ROWS[plan][d] + 1))]
+        return tuple(dict.fromkeys(rows))
+
+    def wanted(plan, rows, n=None, z=None):
+        if n is None:
+            return sum(1 for row in rows if row[-1]) > 1
+        shared = {t for t in last_components(plan, rows) if math.gcd(t, n) > 1}
+        return any(n % q == 0 for q in range(2, n)) and len(shared) > 1
+
+    return [request for plan in range(5) for d in (2, 3) for request in keep(rng, plan, d, 4, draw, wanted)]
+
+
+def large_differences():
+    """Components from 128 to 255: differences have many last components, up to 510."""
+    rng = random.Random(118)
+
+    def draw(rng, plan, d):
+        rows = draw_rows(rng, d, rng.randrange(2, MOST_ROWS[plan][d] // 2 + 2), 128, ZEROS[plan] / 2, plan <= 1)
+        return tuple(tuple(x + 127 if x > 0 else x - 127 if x < 0 else 0 for x in row) for row in rows)
+
+    def wanted(plan, rows, n=None, z=None):
+        return plan == 0 or len(set(last_components(plan, rows))) >= 3 and max(last_components(plan, rows)) > 255
+
+    return [request for plan in range(5) for d in (1, 2, 3) for request in keep(rng, plan, d, 2, draw, wanted)]
+
+
+def same_end():
+    """Rows (a, .., 1): none ends early, yet their differences do."""
+    rng = random.Random(119)
+
+    def draw(rng, plan, d):
+        rows = draw_rows(rng, d - 1, rng.randrange(3, MOST_ROWS[plan][d] + 2), 2 if d > 2 else 6, 0.4, plan <= 1)
+        return tuple(row + (1,) for row in rows)
+
+    def wanted(plan, rows, n=None, z=None):
+        return len(rows) > 2
+
+    axes = {plan: (2, 3) if plan in (2, 3) else (2, 3, 4) for plan in range(5)}
+    return [request for plan in range(5) for d in axes[plan] for request in keep(rng, plan, d, 2, draw, wanted)]
+
+
+def found_late():
+    """Lists whose answer is far above what counting allows, so that many moduli are searched in vain."""
+    rng = random.Random(120)
+    beyond = {0: {1: 6, 2: 5, 3: 4}, 1: {1: 8, 2: 4, 3: 2}, 2: {1: 20, 2: 13, 3: 5}, 3: {1: 20, 2: 13, 3: 5}, 4: {1: 20, 2: 13, 3: 5}}
+
+    def wanted(plan, rows, n=None, z=None):
+        return n is None or n >= (1 if plan == 0 else len(rows)) + beyond[plan][len(rows[0])]
+
+    return [request for plan in range(5) for d in (1, 2, 3) for request in keep(rng, plan, d, 2, draw_list, wanted)]
+
+
+def single_rows():
+    """One row: the zero row, a unit row, and one with a component on every axis."""
+    rng = random.Random(121)
+    requests = []
+    for plan in range(5):
+        for d in range(1, 5):
+            for row in ((0,) * d, (0,) * (d - 1) + (1,), tuple(rng.randrange(1, 7) for _ in range(d))):
+                requests.append(large.ticket(plan, (row,), 8192 if plan_of(plan, (row,)) else LARGEST[d]))
+    return requests
+
+
 # Then the refusals.
 
 def line_1():
@@ -585,7 +761,8 @@ def too_many_bytes():
 
 
 KINDS = (documents, random_lists, not_lower, lower, symmetric, nearly_symmetric, unused_axes, far_components,
-         first_component_above_one, wide, named_sets, many_rows, line_1, rows_and_m_apart, components, equal_rows, several_faults,
+         first_component_above_one, wide, named_sets, many_rows, sign_changes, shared_factors, large_differences, same_end, found_late,
+         single_rows, line_1, rows_and_m_apart, components, equal_rows, several_faults,
          damaged, mutated, noise, too_many_bytes)
 
 

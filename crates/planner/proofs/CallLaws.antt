@@ -5,7 +5,6 @@ use mathlib.Core.Logic.{_↔_, _≢_}
 use mathlib.Core.Bool.{Bool, true, false}
 use mathlib.Core.List.{List, _++_}
 use Prim.Native.Nat.{ℕ, zero, suc, _≤_}
-use native.Mathlib.Nat.{le-refl}
 use native.Mathlib.Omega.{arith}
 use lib.IntN.{ℤ, pos}
 use lib.ListN.{List·getD-eq-default}
@@ -54,8 +53,9 @@ module _ (plan d : ℕ) (xs : List ℤ) (n : ℕ) (z : List ℕ) where
     prepared = record { top = top; covers = covers; products = products };
   }
 
+-- ---- the components of a valid list, in document 01's range
 pub covered-valid : (plan d : ℕ) (xs : List ℤ) → ValidList plan d xs → Covered 255 xs
-covered-valid plan d xs v = record { narrow = le-refl 255; covered = v .small }
+covered-valid plan d xs v = record { narrow = omega arith; covered = v .small }
 
 -- ---- answers: r is the refusal's number as the code found it
 module _ {A : Type 0} where

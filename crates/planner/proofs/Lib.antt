@@ -5,3 +5,4 @@ pub mod SearchTheorems
 pub mod CallLaws
 pub mod SearchCalls
 pub mod Writing
+pub mod RowLaws

@@ -25,7 +25,7 @@ Same r r′ after after′ = (r ≡ r′) × (after ≡ after′)
 
 module _ (rule : Rule) (d n : ℕ) (before after after′ : List ℕ) where
   first-determined : (r r′ : Plan) → FirstOrNone rule d n before after r → FirstOrNone rule d n before after′ r′ → Same r r′ after after′
-  first-determined (Found m) (Found m′) p q = (ap Found (p .0 ∙ sym (q .0)), first-unique rule d n after after′ (p .1) (q .1))
+  first-determined (Found m) (Found m′) p q = (ap Found (p .0 ∙ sym (q .0)), first-unique rule d n n after after′ (p .1) (q .1))
   first-determined (Found m) (Refused k) p q = absurd (hopeless-first rule d n (q .2) after (p .1))
   first-determined (Refused k) (Found m) p q = absurd (hopeless-first rule d n (p .2) after′ (q .1))
   first-determined (Refused k) (Refused k′) p q = (ap Refused (p .0 ∙ sym (q .0)), p .1 ∙ sym (q .1))

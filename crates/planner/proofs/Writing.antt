@@ -1,5 +1,5 @@
--- Writing a list into lent places, one element a turn; and emptying places.
-use mathlib.Core.Path.{_≡_, sym, _∙_, ap}
+-- Writing into lent places, one element a turn: a list, what a function gives for each place, nothing.
+use mathlib.Core.Path.{_≡_, refl, sym, _∙_, ap}
 use mathlib.Core.List.{List, [], _∷_, _++_, append-assoc, append-nil}
 use Prim.Native.Nat.{ℕ, _+_, _≤_, _<_}
 use native.Mathlib.Nat.{add-suc, add-zero}
@@ -31,9 +31,13 @@ module _ {A : Type 0} where
       same : n ≡ j
       same = omega arith
 
-  -- ---- emptying places, one a turn: one more holds z
+  -- ---- places that hold f, one more a turn
+  pub stored-more : (z : A) (xs : List A) (f : ℕ → A) (j : ℕ) (v : A) → j < length xs → v ≡ f j → ((i : ℕ) → i < j → getD xs i z ≡ f i) → (i : ℕ) → i < j + 1 → getD (set xs j v) i z ≡ f i
+  stored-more z xs f j v l e g =
+      below-more (λ i. getD (set xs j v) i z ≡ f i) j
+      (λ i h. getD-set-other xs j i v z (λ d. omega arith) ∙ g i h)
+      (getD-set-same xs j v z l ∙ e)
+
+  -- emptying them
   pub clear-more : (z : A) (table : List A) (i : ℕ) → i < length table → ((r : ℕ) → r < i → getD table r z ≡ z) → (r : ℕ) → r < i + 1 → getD (set table i z) r z ≡ z
-  clear-more z table i l old =
-      below-more (λ (r : ℕ). getD (set table i z) r z ≡ z) i
-      (λ r m. getD-set-other table i r z z (λ e. omega arith) ∙ old r m)
-      (getD-set-same table i z z l)
+  clear-more z table i l old = stored-more z table (λ _. z) i z l refl old

@@ -1,4 +1,8 @@
--- Laws of the search: levels, axes that can change places, the steps of the recursion and of the moduli.
+-- Laws that the proofs of the search share.
+pub mod PrefixLaws
+pub mod ValueLaws
+pub mod ForbidLaws
+pub mod StageLaws
+pub mod EndLaws
+pub mod SiftLaws
 pub mod SearchSteps
-pub mod SwapSteps
-pub mod LevelLaws

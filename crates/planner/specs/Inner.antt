@@ -2,11 +2,11 @@
 use mathlib.Core.Path.{_≡_}
 use mathlib.Core.Bool.{Bool, true, false, not, _&&_, _||_}
 use mathlib.Core.List.{List, [], map, List·Memᴰ}
-use Prim.Native.Nat.{ℕ, _+_, _-_, _*_, _%_, _^_, _<_, _≤_}
+use Prim.Native.Nat.{ℕ, suc, _+_, _-_, _*_, _%_, _^_, _<_, _≤_}
 use lib.Dec.{eqb}
 use lib.IntN.{ℤ, pos, negsuc, natAbs, _*ℤ_}
 use lib.Signed.{quotZ}
-use lib.ListN.{length, getD}
+use lib.ListN.{length, getD, take, drop}
 use Rattle.rank1.specs.Tests.{count}
 use Rattle.rank1.specs.Residue.{residue, residueAt}
 use Rattle.rank1.specs.Index.{rowCount, indexList}
@@ -14,32 +14,37 @@ use Rattle.rank1.specs.Rule.{Reconstructs}
 use Rattle.rank1.specs.Sums.{in32, copies}
 use Rattle.rank1.specs.Valid.{Distinct, ValidModulus}
 use Rattle.rank1.specs.Axes.{ZeroFrom}
+use Rattle.planner.specs.Sizes.{axes, mostRows, mostMirrors, largestSize, middle, places, productRoom}
 
 -- b is true exactly where P holds
 pub record Decides (b : Bool) (P : Type 0) : Type 0 where
   pub yes : b ≡ true → P
   pub no : b ≡ false → P → ⊥
 
--- ---- product tables: 512 places for each axis, one for each component from -255 to 255
+-- ---- product tables: so many places for each axis, one for each component of a row or of a difference
 -- where the product of a component stands among the places of its axis
 abbrev pub place : ℤ → ℕ
-place (pos a) = 255 + a
-place (negsuc a) = 254 - a
+place (pos a) = middle + a
+place (negsuc a) = middle - suc a
 
 -- for each component of z, the residues of its products with the numbers of size at most top
 pub record Products (n : ℕ) (z : List ℕ) (top : ℕ) (table : List ℕ) : Type 0 where
-  pub size : length table ≡ 3072
-  pub entry : (j : ℕ) (x : ℤ) → j < length z → natAbs x ≤ top → getD table (j * 512 + place x) 0 ≡ residue n (x *ℤ pos (getD z j 0))
+  pub size : length table ≡ productRoom
+  pub entry : (j : ℕ) (x : ℤ) → j < length z → natAbs x ≤ top → getD table (j * places + place x) 0 ≡ residue n (x *ℤ pos (getD z j 0))
+
+-- the first k numbers are as they were
+abbrev pub KeptBelow : ℕ → List ℕ → List ℕ → Type 0
+KeptBelow k old new = (i : ℕ) → i < k → getD new i 0 ≡ getD old i 0
 
 -- the products of one axis are set anew; those of the axes before it stay
 pub record AxisSet (n v axis top : ℕ) (old new : List ℕ) : Type 0 where
   pub size : length new ≡ length old
-  pub entry : (x : ℤ) → natAbs x ≤ top → getD new (axis * 512 + place x) 0 ≡ residue n (x *ℤ pos v)
-  pub kept : (i : ℕ) → i < axis * 512 → getD new i 0 ≡ getD old i 0
+  pub entry : (x : ℤ) → natAbs x ≤ top → getD new (axis * places + place x) 0 ≡ residue n (x *ℤ pos v)
+  pub kept : KeptBelow (axis * places) old new
 
 -- no component is larger than top
 pub record Covered (top : ℕ) (xs : List ℤ) : Type 0 where
-  pub narrow : top ≤ 255
+  pub narrow : top ≤ largestSize
   pub covered : (i : ℕ) → natAbs (getD xs i (pos 0)) ≤ top
 
 -- the table has the products of all components in xs
@@ -49,10 +54,19 @@ pub record Prepared (n : ℕ) (z : List ℕ) (xs : List ℤ) (table : List ℕ) 
   pub products : Products n z top table
 
 -- ---- rows
--- what the residues of a row's mirrors ask: at most 6 axes, the row 0 from z's length on, and the products
+-- row e of a run of rows
+abbrev pub rowAt : ℕ → List ℤ → ℕ → List ℤ
+rowAt d xs e = take d (drop (e * d) xs)
+
+-- a run of whole rows
+pub record WholeRows (d : ℕ) (xs : List ℤ) : Type 0 where
+  pub some-axes : 1 ≤ d
+  pub whole : length xs ≡ rowCount d xs * d
+
+-- what the residues of a row's mirrors ask: few axes, the row 0 from z's length on, and the products
 pub record RowReady (n : ℕ) (z : List ℕ) (k : List ℤ) (table : List ℕ) : Type 0 where
   pub modulus : ValidModulus n
-  pub few-axes : length k ≤ 6
+  pub few-axes : length k ≤ axes
   pub short : length z ≤ length k
   pub ended : ZeroFrom (length z) k
   pub prepared : Prepared n z k table
@@ -61,9 +75,9 @@ pub record RowReady (n : ℕ) (z : List ℕ) (k : List ℤ) (table : List ℕ) :
 pub record Ready (d : ℕ) (xs : List ℤ) (n : ℕ) (z table : List ℕ) : Type 0 where
   pub modulus : ValidModulus n
   pub some-axes : 1 ≤ d
-  pub few-axes : d ≤ 6
+  pub few-axes : d ≤ axes
   pub whole : length xs ≡ rowCount d xs * d
-  pub few-rows : rowCount d xs ≤ 512
+  pub few-rows : rowCount d xs ≤ mostRows
   pub different : Distinct (indexList d xs)
   pub short : length z ≤ d
   pub ended : (k : List ℤ) → List·Memᴰ k (indexList d xs) → ZeroFrom (length z) k
@@ -114,4 +128,4 @@ pub record EntryOf (plan n : ℕ) (z : List ℕ) (k : List ℤ) (residue c : ℕ
   pub inside : residue < n
   pub is-copies : c ≡ copies plan n (map pos z) k
   pub some : 1 ≤ c
-  pub few : c ≤ 64
+  pub few : c ≤ mostMirrors

@@ -1,189 +1,264 @@
 -- What the private functions of the search ask and give. Nothing here is in a public contract.
 use mathlib.Core.Path.{_≡_}
-use mathlib.Core.Bool.{Bool, true, false, cond, _||_}
-use mathlib.Core.List.{List, [], _∷_, map, List·Memᴰ}
-use Prim.Native.Nat.{ℕ, _+_, _-_, _*_, _%_, _<_, _≤_}
+use mathlib.Core.Logic.{_≢_}
+use mathlib.Core.Bool.{Bool, true, false, _||_}
+use mathlib.Core.List.{List, map}
+use Prim.Native.Nat.{ℕ, suc, _+_, _-_, _*_, _%_, _<_, _≤_}
 use lib.Dec.{eqb}
 use lib.IntN.{ℤ, pos}
-use lib.ListN.{length, getD, take, drop, set}
+use lib.ListN.{length, getD, take, set}
 use Rattle.planner.specs.declared.Plan.{Plan}
 use Rattle.planner.specs.declared.Plan.the-variants as answer
-use Rattle.rank1.specs.Tests.{every, sameNumber, sameRow}
-use Rattle.rank1.specs.Index.{rowCount, indexList}
+use Rattle.planner.specs.declared.search.Search.{Search}
+use Rattle.rank1.specs.Residue.{residueAt}
+use Rattle.rank1.specs.Index.{indexList}
 use Rattle.rank1.specs.Rule.{Rule, Admissible}
-use Rattle.rank1.specs.Search.{Before, InRange, First, Hopeless}
-use Rattle.rank1.specs.Valid.{Distinct, Nonnegative, ValidModulus}
-use Rattle.rank1.specs.Axes.{Agree, Interchangeable, zeroAfter}
+use Rattle.rank1.specs.Search.{Before, InRange, First, FirstBelow, Hopeless}
+use Rattle.rank1.specs.Valid.{ValidList, ValidModulus}
+use Rattle.rank1.specs.Axes.{Agree}
+use Rattle.rank1.specs.Differences.{Sound}
 use Rattle.rank1.specs.Refusal.{searchRefusal}
 use Rattle.planner.specs.Answer.{RefusedOr}
-use Rattle.planner.specs.Inner.{Products, Covered}
+use Rattle.planner.specs.Sizes.{axes, lasts, room, places, productRoom, largestModulus, solutionRoom}
+use Rattle.planner.specs.Inner.{KeptBelow, Products, Covered}
+use Rattle.planner.specs.Levels.{Levels}
+use Rattle.planner.specs.Exchange.{Swaps}
+use Rattle.planner.specs.Table.{FlipMarks}
+use Rattle.planner.specs.Runs.{column, Bounds, Arranged}
+use Rattle.planner.specs.Sieve.{partAt, Readable, SolutionsOf, Sievable, Forbidden, FirstForbidden}
 
--- ---- levels: for each axis j the rows that are 0 from j on, in 3072 places of their own, 21504 in all; the groups stand behind
--- them. Their shape begins with 43 numbers: the sizes of the 7 levels, then the marks of the axes that can change places; the
--- marks of the groups stand behind them
--- every component from axis j on is 0
-abbrev pub zeroFrom : ℕ → List ℤ → Bool
-zeroFrom j k = every (sameNumber (pos 0)) (drop j k)
+-- ---- the tables of a list: the list itself, the rows that end by each axis and their sizes, the marks of the axes that can change
+-- places and of those whose sign can change, the differences by the axis where they end, and where their runs begin
+pub record ListTables : Type 0 where
+  pub rows : List ℤ
+  pub levels : List ℤ
+  pub sizes : List ℕ
+  pub swaps : List ℕ
+  pub flips : List ℕ
+  pub components : List ℤ
+  pub bounds : List ℕ
 
--- the rows that are 0 from axis j on
-abbrev pub ending : ℕ → List (List ℤ) → List (List ℤ)
-ending j [] = []
-ending j (k ∷ ks) = cond (zeroFrom j k) (k ∷ ending j ks) (ending j ks)
+abbrev pub listTables : List ℤ → List ℤ → List ℕ → List ℕ → List ℕ → List ℤ → List ℕ → ListTables
+listTables rows levels sizes swaps flips components bounds = record {
+  rows = rows;
+  levels = levels;
+  sizes = sizes;
+  swaps = swaps;
+  flips = flips;
+  components = components;
+  bounds = bounds;
+}
 
--- the run of level j
-abbrev pub levelRun : List ℤ → List ℕ → ℕ → List ℤ
-levelRun runs shape j = take (getD shape j 0) (drop (j * 3072) runs)
+-- the rule that is searched for: that of the plan for the list
+abbrev pub ruleOf : ℕ → ℕ → ListTables → Rule
+ruleOf plan d T = Admissible plan (indexList d (T .rows))
 
--- the list that is searched is the last level
-abbrev pub searched : ℕ → List ℤ → List ℕ → List (List ℤ)
-searched d runs shape = indexList d (levelRun runs shape d)
-
--- a run of rows that hold the list given
-pub record RunOf (d : ℕ) (ks : List (List ℤ)) (xs : List ℤ) : Type 0 where
-  pub rows : indexList d xs ≡ ks
-  pub whole : length xs ≡ rowCount d xs * d
-
--- r numbers at the front of `new` are the rows of xs that are 0 from axis j on; no number is in `new` that was not there before
--- or in xs
-pub record Kept (d j : ℕ) (xs old new : List ℤ) (r : ℕ) : Type 0 where
-  pub level : RunOf d (ending j (indexList d xs)) (take r new)
-  pub fits : r ≤ length xs
-  pub covers : (top : ℕ) → Covered top xs → Covered top old → Covered top new
-
--- ---- axes that can change places
--- the axis whose component stands at axis a where axes i and j have changed places
-abbrev pub otherAxis : ℕ → ℕ → ℕ → ℕ
-otherAxis i j a = cond (eqb a i) j (cond (eqb a j) i a)
-
--- where the shape has no 0 at place 7 + 6 i + j, axes i < j are interchangeable in the list
-pub record Swaps (d : ℕ) (ks : List (List ℤ)) (shape : List ℕ) : Type 0 where
-  pub known : (i j : ℕ) → i < j → j < d → (getD shape (7 + i * 6 + j) 0 ≡ 0 → ⊥) → Interchangeable i j ks
-
--- the levels before j hold the rows of xs that end by their axes
-pub record LevelsTo (d top j : ℕ) (xs runs : List ℤ) (shape : List ℕ) : Type 0 where
-  pub tall : length shape ≡ 43
-  pub swaps : Swaps d (indexList d xs) shape
-  pub long : length runs ≡ 21504
-  pub covers : Covered top runs
-  pub few : (i : ℕ) → i < j → getD shape i 0 ≤ 3072
-  pub level : (i : ℕ) → i < j → RunOf d (ending i (indexList d xs)) (levelRun runs shape i)
-
--- ---- groups: rows with one later part, with zeros in its place
--- the rows whose components from axis j on are u
-abbrev pub sharing : ℕ → List ℤ → List (List ℤ) → List (List ℤ)
-sharing j u [] = []
-sharing j u (k ∷ ks) = cond (sameRow u (drop j k)) (k ∷ sharing j u ks) (sharing j u ks)
-
--- these rows with zeros in place of u
-abbrev pub zeroedGroup : ℕ → List ℤ → List (List ℤ) → List (List ℤ)
-zeroedGroup j u ks = map (zeroAfter j) (sharing j u ks)
-
--- r numbers at the front of `new` are the rows of xs that share u, zeroed; no number is in `new` that was not there before, in xs
--- or 0
-pub record GroupWritten (d j : ℕ) (u xs old new : List ℤ) (r : ℕ) : Type 0 where
-  pub level : RunOf d (zeroedGroup j u (indexList d xs)) (take r new)
-  pub fits : r ≤ length xs
-  pub covers : (top : ℕ) → Covered top xs → Covered top old → Covered top new
-
--- the marks of the groups: the groups of level j are those from marks j to marks (j + 1), for j to 6; the run of group g is in the
--- area from marks (8 + g) to marks (9 + g)
-abbrev pub groupRun : List ℤ → List ℕ → ℕ → List ℤ
-groupRun area marks g = take (getD marks (9 + g) 0 - getD marks (8 + g) 0) (drop (getD marks (8 + g) 0) area)
-
--- group g is one of level j; plan 0 has none
-pub record GroupAt (plan d j : ℕ) (ks : List (List ℤ)) (area : List ℤ) (marks : List ℕ) (g : ℕ) : Type 0 where
-  pub pairs : 1 ≤ plan
-  pub known : 9 + g < length marks
-  pub upward : getD marks (8 + g) 0 ≤ getD marks (9 + g) 0
-  pub inside : getD marks (9 + g) 0 ≤ length area
-  pub later : List ℤ
-  pub level : RunOf d (zeroedGroup j later ks) (groupRun area marks g)
-
-pub record Groups (plan d : ℕ) (ks : List (List ℤ)) (area : List ℤ) (marks : List ℕ) : Type 0 where
-  pub group : (j g : ℕ) → j ≤ d → getD marks j 0 ≤ g → g < getD marks (j + 1) 0 → GroupAt plan d j ks area marks g
-
--- c groups are set, all of the levels before j, and none of the levels behind j
-pub record Grouping (plan d top j c : ℕ) (ks : List (List ℤ)) (area : List ℤ) (marks : List ℕ) : Type 0 where
-  pub tall : length marks ≡ 2569
-  pub covers : Covered top area
-  pub few : c ≤ 2560
-  pub before : (i g : ℕ) → i < j → getD marks i 0 ≤ g → g < getD marks (i + 1) 0 → GroupAt plan d i ks area marks g
-  pub here : (g : ℕ) → getD marks j 0 ≤ g → g < c → GroupAt plan d j ks area marks g
-  pub counted : (i : ℕ) → i ≤ j → getD marks i 0 ≤ c
-  pub none : (i : ℕ) → j < i → i < 8 → getD marks i 0 ≡ 0
-  pub room : getD marks (8 + c) 0 ≤ length area
-  pub ordered : (g : ℕ) → g < c → getD marks (9 + g) 0 ≤ getD marks (8 + c) 0
-
--- ---- a valid list in levels, no component larger than top
-pub record Levels (plan d top : ℕ) (runs : List ℤ) (shape : List ℕ) : Type 0 where
+-- a valid list, no component larger than top, and the rows that end by each axis
+pub record Listed (plan d top : ℕ) (rows levels : List ℤ) (sizes : List ℕ) : Type 0 where
   pub plans : plan ≤ 4
-  pub some-axes : 1 ≤ d
-  pub few-axes : d ≤ 6
-  pub few-rows : length (searched d runs shape) ≤ 512
-  pub different : Distinct (searched d runs shape)
-  pub unsigned : 2 ≤ plan → (k : List ℤ) → List·Memᴰ k (searched d runs shape) → Nonnegative k
-  pub long : (k : List ℤ) → List·Memᴰ k (searched d runs shape) → length k ≡ d
-  pub covers : Covered top runs
-  pub tall : 51 ≤ length shape
-  pub swaps : Swaps d (searched d runs shape) shape
-  pub room : (j : ℕ) → j ≤ d → j * 3072 + getD shape j 0 ≤ length runs
-  pub level : (j : ℕ) → j ≤ d → RunOf d (ending j (searched d runs shape)) (levelRun runs shape j)
-  pub wide : 21504 ≤ length runs
-  pub groups : Groups plan d (searched d runs shape) (drop 21504 runs) (drop 43 shape)
+  pub list : ValidList plan d rows
+  pub covers : Covered top rows
+  pub ends : Levels d top rows levels sizes
+
+-- the differences of a list and the axes whose sign can change: every difference is avoided, no component of a row or of a difference is
+-- larger than top, and tail has a place among the last components
+pub record Differenced (plan d top tail : ℕ) (rows : List ℤ) (flips : List ℕ) (components : List ℤ) (bounds : List ℕ) : Type 0 where
+  pub covers : Covered top rows
+  pub flip-size : length flips ≡ axes
+  pub flips-right : FlipMarks d (Admissible plan (indexList d rows)) flips
+  pub differences : List (List ℤ)
+  pub sound : Sound (Admissible plan (indexList d rows)) differences
+  pub arranged : Arranged differences d components bounds
+  pub small : Covered top components
+  pub tails : tail < lasts
+
+-- what making them asks
+pub record Differable (plan d : ℕ) (rows : List ℤ) (flips : List ℕ) (components : List ℤ) (bounds : List ℕ) : Type 0 where
+  pub plans : plan ≤ 4
+  pub list : ValidList plan d rows
+  pub flip-size : length flips ≡ axes
+  pub wide : length components ≡ axes * room
+  pub zeros : Covered 0 components
+  pub tall : length bounds ≡ suc (axes * lasts)
+
+-- all tables of a valid list
+pub record Tabled (plan d top tail : ℕ) (T : ListTables) : Type 0 where
+  pub listed : Listed plan d top (T .rows) (T .levels) (T .sizes)
+  pub swaps : Swaps d (indexList d (T .rows)) (T .swaps)
+  pub differenced : Differenced plan d top tail (T .rows) (T .flips) (T .components) (T .bounds)
+
+-- ---- the tables of a modulus: for the last components of the differences the solutions, where they begin, and how far apart they are
+pub record ModulusTables : Type 0 where
+  pub solutions : List ℕ
+  pub starts : List ℕ
+  pub steps : List ℕ
+
+abbrev pub modulusTables : List ℕ → List ℕ → List ℕ → ModulusTables
+modulusTables solutions starts steps = record { solutions = solutions; starts = starts; steps = steps }
+
+-- ---- what the recursion writes: the vector, the sums of the differences' parts, the products of the axes, the struck values and the
+-- owners of the residues
+pub record Work : Type 0 where
+  pub z : List ℕ
+  pub sums : List ℕ
+  pub products : List ℕ
+  pub struck : List ℕ
+  pub owners : List ℕ
+
+abbrev pub work : List ℕ → List ℕ → List ℕ → List ℕ → List ℕ → Work
+work z sums products struck owners = record { z = z; sums = sums; products = products; struck = struck; owners = owners }
 
 -- ---- prefixes
--- no first vector begins as z does below k
-unfoldable pub NoFirstFrom : Rule → ℕ → ℕ → ℕ → List ℕ → Type 0
-NoFirstFrom rule d n k z = (y : List ℕ) → First rule d n y → Agree k y z → ⊥
+-- y begins as z does below k
+abbrev pub BeginsAs : ℕ → List ℤ → List ℕ → Type 0
+BeginsAs k y z = (i : ℕ) → i < k → getD y i (pos 0) ≡ pos (getD z i 0)
 
--- the first at components of z are fixed and their products set
-pub record Stage (plan d top : ℕ) (runs : List ℤ) (shape : List ℕ) (n at : ℕ) (z products owners : List ℕ) : Type 0 where
-  pub levels : Levels plan d top runs shape
+-- no vector of whole numbers that meets the rule begins as z does below k
+unfoldable pub NoneFrom : Rule → ℕ → ℕ → ℕ → List ℕ → Type 0
+NoneFrom rule d n k z = (y : List ℤ) → length y ≡ d → BeginsAs k y z → rule n y → ⊥
+
+-- no first vector with components below b begins so
+unfoldable pub NoFirstFrom : Rule → ℕ → ℕ → ℕ → ℕ → List ℕ → Type 0
+NoFirstFrom rule d n b k z = (y : List ℕ) → FirstBelow rule d n b y → Agree k y z → ⊥
+
+-- the products of the first at components of z are set
+pub record Prefixed (s : Search) (at : ℕ) (z products owners : List ℕ) : Type 0 where
+  pub modulus : ValidModulus (s .n)
+  pub within : at ≤ s .d
+  pub size : length z ≡ s .d
+  pub entries : Products (s .n) (take at z) (s .top) products
+  pub owner-room : s .n ≤ length owners
+
+-- the first at components of z are fixed: they are below the number of values that are tried
+pub record Fixed (s : Search) (T : ListTables) (at : ℕ) (z products owners : List ℕ) : Type 0 where
+  pub tabled : Tabled (s .plan) (s .d) (s .top) (s .tail) T
+  pub prefix : Prefixed s at z products owners
+  pub few-values : s .values ≤ s .n
+  pub below : (j : ℕ) → j < at → getD z j 0 < s .values
+
+-- section i of the sums, to i = k: the residues of the parts before axis i of the differences that end behind axis i
+pub record SumsTo (n d k : ℕ) (z : List ℕ) (components : List ℤ) (bounds sums : List ℕ) : Type 0 where
+  pub size : length sums ≡ axes * room
+  pub sum :
+      (i e : ℕ) → i ≤ k → i < d → getD bounds ((i + 1) * lasts) 0 ≤ e → e < getD bounds (d * lasts) 0
+      → getD sums (i * room + e) 0 ≡ residueAt n (map pos z) (take i (column d components e))
+
+-- all that the recursion asks: the sums up to the section that the sieve reads are set too, and the tables of the modulus
+pub record Stage (s : Search) (T : ListTables) (M : ModulusTables) (at : ℕ) (w : Work) : Type 0 where
+  pub fixed : Fixed s T at (w .z) (w .products) (w .owners)
+  pub sums : SumsTo (s .n) (s .d) (at - 1) (w .z) (T .components) (T .bounds) (w .sums)
+  pub solutions : SolutionsOf (s .n) (M .solutions) (M .starts) (M .steps)
+  pub marks : length (w .struck) ≡ suc (axes * largestModulus)
+
+-- what completing from component at on leaves as it was: what belongs to the axes before it
+pub record KeptBefore (at : ℕ) (old new : Work) : Type 0 where
+  pub size : length (new .z) ≡ length (old .z)
+  pub begins : Agree at (new .z) (old .z)
+  pub sum-size : length (new .sums) ≡ length (old .sums)
+  pub sums : KeptBelow ((at - 1 + 1) * room) (old .sums) (new .sums)
+  pub product-size : length (new .products) ≡ length (old .products)
+  pub products : KeptBelow (at * places) (old .products) (new .products)
+  pub mark-size : length (new .struck) ≡ length (old .struck)
+  pub struck : KeptBelow (at * largestModulus) (old .struck) (new .struck)
+  pub owner-size : length (new .owners) ≡ length (old .owners)
+
+-- ---- the values of component at that are tried
+-- no value below r: r is 0, or the component of an earlier axis with which axis at can change places
+pub data Lowest (swaps : List ℕ) (at : ℕ) (z : List ℕ) (r : ℕ) : Type 0 where
+  nothing : r ≡ 0 → Lowest swaps at z r
+  raised : (i : ℕ) → i < at → getD swaps (i * axes + at) 0 ≢ 0 → r ≡ getD z i 0 → Lowest swaps at z r
+
+-- r is low, or x where there is a mark
+pub data Raised (low mark x r : ℕ) : Type 0 where
+  unraised : r ≡ low → Raised low mark x r
+  higher : mark ≢ 0 → r ≡ x → Raised low mark x r
+
+-- none from r on: from there on all are above n / 2, on an axis whose sign can change
+pub record ValueEnd (n values at : ℕ) (flips : List ℕ) (r : ℕ) : Type 0 where
+  pub low : r ≤ values
+  pub high : (v : ℕ) → r ≤ v → v < values → (getD flips at 0 ≢ 0) × (n < 2 * v)
+
+-- what marking the values of axis at asks
+pub record Siftable (n at tail : ℕ) (components : List ℤ) (bounds products sums solutions starts steps struck : List ℕ) : Type 0 where
   pub modulus : ValidModulus n
-  pub within : at ≤ d
-  pub size : length z ≡ d
-  pub below : (j : ℕ) → j < at → getD z j 0 < n
-  pub table-size : length products ≡ 3072
-  pub entries : Products n (take at z) top products
-  pub owner-room : n ≤ length owners
+  pub bounded : Bounds bounds
+  pub short : tail < lasts
+  pub solved : SolutionsOf n solutions starts steps
+  pub marks : length struck ≡ suc (axes * largestModulus)
+  pub sievable : (before : ℕ) → at ≡ suc before → Sievable n before components bounds products sums tail solutions starts steps
 
--- the rule holds of the rows that are 0 from axis at on
-abbrev pub Fine : ℕ → ℕ → List ℤ → List ℕ → ℕ → ℕ → List ℕ → Type 0
-Fine plan d runs shape n at z = Admissible plan (ending at (searched d runs shape)) n (map pos (take at z))
+-- a difference forbids the value v of component at: of the first, or of one behind it
+pub data Ruled (n at : ℕ) (components : List ℤ) (bounds products sums : List ℕ) (v : ℕ) : Type 0 where
+  at-first : at ≡ 0 → FirstForbidden n bounds v → Ruled n at components bounds products sums v
+  behind : (before : ℕ) → at ≡ suc before → Forbidden n before components bounds products sums v → Ruled n at components bounds products sums v
 
--- the entries of the axes before at are as they were
-abbrev pub KeptBelow : ℕ → List ℕ → List ℕ → Type 0
-KeptBelow at old new = (i : ℕ) → i < at * 512 → getD new i 0 ≡ getD old i 0
+-- the marks of axis at are of values that a difference forbids; the marks of the axes before stay
+pub record Sifted (n at : ℕ) (components : List ℤ) (bounds products sums old new : List ℕ) : Type 0 where
+  pub kept : KeptBelow (at * largestModulus) old new
+  pub reason : (v : ℕ) → v < n → getD new (at * largestModulus + v) 0 ≢ 0 → Ruled n at components bounds products sums v
 
--- v is below the component of an earlier axis with which axis at can change places
-pub record Falls (shape : List ℕ) (at v : ℕ) (z : List ℕ) : Type 0 where
-  pub axis : ℕ
-  pub earlier : axis < at
-  pub marked : getD shape (7 + axis * 6 + at) 0 ≡ 0 → ⊥
-  pub lower : v < getD z axis 0
+-- r is the first value from `from` on that is not struck, or the end
+pub record NextFree (base from end : ℕ) (struck : List ℕ) (r : ℕ) : Type 0 where
+  pub onward : from ≤ end → from ≤ r
+  pub inside : r ≤ end
+  pub marked : (v : ℕ) → from ≤ v → v < r → getD struck (base + v) 0 ≢ 0
 
--- why no first vector that begins as z has v at axis at: a first component that neither is 0 nor divides n, one above n / 2 under
--- plan A, or one that falls
-pub data RuledOut (plan : ℕ) (shape : List ℕ) (n at v : ℕ) (z : List ℕ) : Type 0 where
-  leads : at ≡ 0 → (eqb v 0 || eqb (n % v) 0) ≡ false → RuledOut plan shape n at v z
-  high : plan ≡ 2 → n < 2 * v → RuledOut plan shape n at v z
-  low : Falls shape at v z → RuledOut plan shape n at v z
+-- where scaling holds, v cannot be a first component: it neither is 0 nor divides n
+pub record CannotLead (s : Search) (at v : ℕ) : Type 0 where
+  pub first : at ≡ 0
+  pub all-values : s .values ≡ s .n
+  pub fails : (eqb v 0 || eqb (s .n % v) 0) ≡ false
 
--- component at is set to v: with true the next stage is reached, with false no first vector begins so
-pub record Tried (plan d top : ℕ) (runs : List ℤ) (shape : List ℕ) (n at v : ℕ) (z products z′ products′ owners′ : List ℕ) (r : Bool) : Type 0 where
+-- what setting section at of the sums asks: behind the first axis, that the differences that end behind axis at can be read
+pub record Summable (n d at : ℕ) (components : List ℤ) (bounds products sums : List ℕ) : Type 0 where
+  pub within : at < d
+  pub few-axes : d ≤ axes
+  pub bounded : Bounds bounds
+  pub readable :
+      (before : ℕ) → at ≡ suc before → at + 1 < d
+      → Readable n before components products sums (getD bounds ((at + 1) * lasts) 0) (getD bounds (d * lasts) 0)
+
+-- section at is set from the section before it and the products of the axis before; the sections before stay
+pub record SumsAdded (n d at : ℕ) (components : List ℤ) (bounds products old new : List ℕ) : Type 0 where
+  pub kept : KeptBelow ((at - 1 + 1) * room) old new
+  pub added :
+      (before e : ℕ) → at ≡ suc before → getD bounds ((at + 1) * lasts) 0 ≤ e → e < getD bounds (d * lasts) 0
+      → getD new (at * room + e) 0 ≡ partAt n before components products old e
+
+-- what trying v for component at asks
+pub record Triable (s : Search) (at v : ℕ) (rows levels : List ℤ) (sizes z products owners : List ℕ) : Type 0 where
+  pub listed : Listed (s .plan) (s .d) (s .top) rows levels sizes
+  pub prefix : Prefixed s at z products owners
+  pub few-values : s .values ≤ s .n
+  pub within : at < s .d
+  pub less : v < s .values
+
+-- component at is set to v: with true its products are set too, with false no first vector begins so
+pub record Tried (s : Search) (at v : ℕ) (rows : List ℤ) (z products z′ products′ owners′ : List ℕ) (r : Bool) : Type 0 where
   pub stored : z′ ≡ set z at v
-  pub kept : KeptBelow at products products′
-  pub stage : r ≡ true → Stage plan d top runs shape n (at + 1) z′ products′ owners′
-  pub fine : r ≡ true → Fine plan d runs shape n (at + 1) z′
-  pub none : r ≡ false → NoFirstFrom (Admissible plan (searched d runs shape)) d n (at + 1) z′
+  pub kept-products : KeptBelow (at * places) products products′
+  pub prefix : r ≡ true → Prefixed s (at + 1) z′ products′ owners′
+  pub none : r ≡ false → NoFirstFrom (Admissible (s .plan) (indexList (s .d) rows)) (s .d) (s .n) (s .values) (at + 1) z′
 
 -- what completing z from component k on gives: the new vector x, and whether it is one
-pub record Completed (rule : Rule) (d n k : ℕ) (z x : List ℕ) (r : Bool) : Type 0 where
-  pub kept : Agree k x z
-  pub ranged : r ≡ true → InRange n d x
+pub record Completed (rule : Rule) (d n b k : ℕ) (z x : List ℕ) (r : Bool) : Type 0 where
+  pub ranged : r ≡ true → InRange b d x
   pub admissible : r ≡ true → rule n (map pos x)
-  pub least : r ≡ true → (y : List ℕ) → First rule d n y → Agree k y z → Before y x → ⊥
-  pub none : r ≡ false → NoFirstFrom rule d n k z
+  pub least : r ≡ true → (y : List ℕ) → FirstBelow rule d n b y → Agree k y z → Before y x → ⊥
+  pub none : r ≡ false → NoFirstFrom rule d n b k z
+
+-- ---- the moduli
+-- the tables of the modulus and of the work have their sizes, and the sums of the parts before the first axis are 0
+pub record Roomy (d : ℕ) (M : ModulusTables) (w : Work) : Type 0 where
+  pub solutions : length (M .solutions) ≡ solutionRoom
+  pub starts : length (M .starts) ≡ lasts
+  pub steps : length (M .steps) ≡ lasts
+  pub z : length (w .z) ≡ d
+  pub sums : length (w .sums) ≡ axes * room
+  pub zeros : (e : ℕ) → e < room → getD (w .sums) e 0 ≡ 0
+  pub products : length (w .products) ≡ productRoom
+  pub struck : length (w .struck) ≡ suc (axes * largestModulus)
+  pub owners : length (w .owners) ≡ largestModulus
 
 -- x is the first vector at n, or n fails with every vector
 pub record Decided (rule : Rule) (d n : ℕ) (x : List ℕ) (r : Bool) : Type 0 where
@@ -197,6 +272,19 @@ pub record Ascended (rule : Rule) (d low high : ℕ) (x : List ℕ) (n : ℕ) : 
   pub to-high : n ≤ high
   pub smaller-fail : (n ≡ 0 → ⊥) → (m : ℕ) → low ≤ m → m < n → Hopeless rule d m
   pub none : n ≡ 0 → (m : ℕ) → low ≤ m → m ≤ high → Hopeless rule d m
+
+-- what the search of a valid list asks: moduli from 1 to the largest, and a place for each component
+pub record Searchable (plan d : ℕ) (rows : List ℤ) (low high : ℕ) (z : List ℕ) : Type 0 where
+  pub plans : plan ≤ 4
+  pub list : ValidList plan d rows
+  pub some : 1 ≤ low
+  pub few : high ≤ largestModulus
+  pub places-for-z : length z ≡ d
+
+-- the moduli from low to before r are fewer than the rows, under plans 1 to 4
+pub record StartOf (plan count low r : ℕ) : Type 0 where
+  pub onward : low ≤ r
+  pub skipped : (m : ℕ) → low ≤ m → m < r → (plan ≢ 0) × (m < count)
 
 -- what the search of the moduli from start to end answers
 abbrev pub PlanBetween : Rule → ℕ → ℕ → ℕ → List ℕ → List ℕ → Plan → Type 0

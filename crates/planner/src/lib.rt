@@ -1,16 +1,29 @@
 // The planner's calls: check, residue map, spread, gather, point list and the two searches (document 01). Every public call takes any
 // arguments, refuses wrong ones by the numbers of document 01's table, and then leaves what it was lent as it was.
 
-mod groups;
+mod axes;
+mod differences;
+mod fill;
+mod flips;
+mod levels;
+mod listing;
+mod members;
 mod mirrors;
+mod moduli;
 mod points;
 mod products;
 mod refusals;
+mod rows;
 mod rule;
+mod runs;
 mod search;
+mod sieve;
+mod sizes;
 mod sums;
+mod table;
 mod widths;
 
+use crate::sizes::PRODUCT_ROOM;
 ghost use mathlib.Core.Path.{_≡_};
 ghost use Prim.Native.Nat.{_≤_};
 ghost use Rattle.planner.specs.Answer.{checkAnswer, ResidueMapCall, SpreadCall, GatherCall, PointListCall, refusalNumber, VectorSearch, SmallestSearch};
@@ -46,7 +59,7 @@ pub fn residue_map(plan: u8, d: usize, rows: &[i16], n: u16, z: &[u16], out: &mu
     if map_refused != 0 {
         return map_refused;
     }
-    let mut products = [0u16; 3072];
+    let mut products = [0u16; PRODUCT_ROOM];
     products::prepare_rows(plan, d, rows, n, z, &mut products);
     sums::write_map(plan, d, rows, n, z, &products, out);
     0
@@ -68,7 +81,7 @@ pub fn spread(
     if spread_refused != 0 {
         return spread_refused;
     }
-    let mut products = [0u16; 3072];
+    let mut products = [0u16; PRODUCT_ROOM];
     products::prepare_rows(plan, d, rows, n, z, &mut products);
     sums::write_sums(plan, d, rows, n, z, &products, terms, sums);
     0
@@ -90,7 +103,7 @@ pub fn gather(
     if gather_refused != 0 {
         return gather_refused;
     }
-    let mut products = [0u16; 3072];
+    let mut products = [0u16; PRODUCT_ROOM];
     products::prepare_rows(plan, d, rows, n, z, &mut products);
     sums::write_terms(plan, d, rows, n, z, &products, sums, terms);
     0
@@ -133,7 +146,7 @@ fn search_between(plan: u8, d: usize, rows: &[i16], low: u16, high: u16, z: &mut
     if refused != 0 {
         return Plan::Refused(refused);
     }
-    search::first_plan(plan, d, rows, low, high, z)
+    moduli::first_plan(plan, d, rows, low, high, z)
 }
 
 // The first admissible vector at n in dictionary order.

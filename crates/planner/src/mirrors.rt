@@ -3,6 +3,7 @@
 use crate::products::place_of;
 use crate::products::row_residue;
 use crate::products::sum_of;
+use crate::sizes::PLACES;
 ghost use mathlib.Core.Path.{_≡_};
 ghost use mathlib.Core.List.{_++_, map};
 ghost use Prim.Native.Nat.{ℕ, _+_, _*_, _%_, _^_, _≤_, _<_};
@@ -12,11 +13,12 @@ ghost use lib.Count.{ones};
 ghost use Rattle.rank1.specs.Residue.{residueAt};
 ghost use Rattle.rank1.specs.Index.{mirrors, nonzeros};
 ghost use Rattle.rank1.specs.Sums.{mirrorsUnder};
+ghost use Rattle.planner.specs.Sizes.{axes, mostMirrors, largestModulus};
 ghost use Rattle.planner.specs.Inner.{RowReady};
 
 // The axes on which a row is not 0, as bits.
 pub(crate) fn nonzero_mask(row: &[i16]) -> u32
-    requires { ⌜ length (now row) ≤ 6 ⌝ }
+    requires { ⌜ length (now row) ≤ axes ⌝ }
     ensures { λ r. ⌜ (ones r ≡ nonzeros (now (row .entry))) × (r < 2 ^ length (now (row .entry))) ⌝ }
 {
     let mut mask: u32 = 0;
@@ -30,15 +32,15 @@ pub(crate) fn nonzero_mask(row: &[i16]) -> u32
 
 // How many mirrors a row has: 2 to the number of its non-zero components.
 pub(crate) fn mirror_count(row: &[i16]) -> usize
-    requires { ⌜ length (now row) ≤ 6 ⌝ }
-    ensures { λ r. ⌜ (r ≡ length (mirrors (now (row .entry)))) × (1 ≤ r) × (r ≤ 64) ⌝ }
+    requires { ⌜ length (now row) ≤ axes ⌝ }
+    ensures { λ r. ⌜ (r ≡ length (mirrors (now (row .entry)))) × (1 ≤ r) × (r ≤ mostMirrors) ⌝ }
 {
     1 << u32::count_ones(nonzero_mask(row))
 }
 
 // The first count residues once more behind them, each with step added.
 fn reflect(out: &mut [u16], count: usize, step: u16, n: u16)
-    requires { ⌜ (count + count ≤ length (now out)) × (step < n) × (n ≤ 8192) ⌝ }
+    requires { ⌜ (count + count ≤ length (now out)) × (step < n) × (n ≤ largestModulus) ⌝ }
     requires { ⌜ ((t : ℕ) → t < count → getD (now out) t 0 < n) ⌝ }
     ensures { λ _. ⌜ take (count + count) (now (out .exit)) ≡ take count (now (out .entry)) ++ map (λ r. (r + step) % n) (take count (now (out .entry))) ⌝ }
 {
@@ -50,7 +52,7 @@ fn reflect(out: &mut [u16], count: usize, step: u16, n: u16)
 // The residues of a row's mirrors: from the last axis to the first, each component that is not 0 doubles what stands there.
 pub(crate) fn mirror_residues(row: &[i16], z: &[u16], n: u16, products: &[u16], out: &mut [u16])
     requires { ⌜ RowReady n (now z) (now row) (now products) ⌝ }
-    requires { ⌜ length (now out) ≡ 64 ⌝ }
+    requires { ⌜ length (now out) ≡ mostMirrors ⌝ }
     ensures { λ _. ⌜ take (length (mirrors (now (row .entry)))) (now (out .exit)) ≡ map (residueAt n (map pos (now (z .entry)))) (mirrors (now (row .entry))) ⌝ }
 {
     out[0] = row_residue(row, z, n, products);
@@ -60,7 +62,7 @@ pub(crate) fn mirror_residues(row: &[i16], z: &[u16], n: u16, products: &[u16], 
         j -= 1;
         let x = row[j];
         if x != 0 {
-            let p = products[j * 512 + place_of(-x)];
+            let p = products[j * PLACES + place_of(-x)];
             reflect(out, count, sum_of(p, p, n), n);
             count += count;
         }
@@ -78,8 +80,8 @@ pub(crate) fn residues_under(
     out: &mut [u16],
 ) -> usize
     requires { ⌜ RowReady n (now z) (now row) (now products) ⌝ }
-    requires { ⌜ length (now out) ≡ 64 ⌝ }
-    ensures { λ r. ⌜ (take r (now (out .exit)) ≡ map (residueAt n (map pos (now (z .entry)))) (mirrorsUnder plan (now (row .entry)))) × (r ≡ length (mirrorsUnder plan (now (row .entry)))) × (1 ≤ r) × (r ≤ 64) ⌝ }
+    requires { ⌜ length (now out) ≡ mostMirrors ⌝ }
+    ensures { λ r. ⌜ (take r (now (out .exit)) ≡ map (residueAt n (map pos (now (z .entry)))) (mirrorsUnder plan (now (row .entry)))) × (r ≡ length (mirrorsUnder plan (now (row .entry)))) × (1 ≤ r) × (r ≤ mostMirrors) ⌝ }
 {
     if plan < 2 {
         out[0] = row_residue(row, z, n, products);

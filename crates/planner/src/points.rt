@@ -8,10 +8,11 @@ ghost use lib.ListN.{length, getD, take};
 ghost use Rattle.rank1.specs.Points.{coordinate, pointLine, lineCount, pointList};
 ghost use Rattle.rank1.specs.Search.{InRange};
 ghost use Rattle.rank1.specs.Valid.{ValidModulus};
+ghost use Rattle.planner.specs.Sizes.{axes, largestModulus};
 
 // What stands for a residue: itself for plans 0 and 1, its tent numerator for plans 2, 3 and 4.
 fn coordinate_of(plan: u8, n: u16, r: u16) -> u16
-    requires { ⌜ (r < n) × (n ≤ 8192) ⌝ }
+    requires { ⌜ (r < n) × (n ≤ largestModulus) ⌝ }
     ensures { λ c. ⌜ c ≡ coordinate plan n r ⌝ }
 {
     if plan < 2 {
@@ -31,7 +32,7 @@ pub(crate) fn line_count(plan: u8, n: u16) -> usize
 
 // One component of line i.
 fn entry(plan: u8, n: u16, i: u16, x: u16) -> u16
-    requires { ⌜ (i < n) × (x < n) × (n ≤ 8192) ⌝ }
+    requires { ⌜ (i < n) × (x < n) × (n ≤ largestModulus) ⌝ }
     ensures { λ r. ⌜ r ≡ coordinate plan n ((i * x) % n) ⌝ }
 {
     let r = wide32(i) * wide32(x) % wide32(n);
@@ -51,7 +52,7 @@ fn write_line(plan: u8, n: u16, z: &[u16], i: u16, out: &mut [u16], at: usize)
 
 // The whole list, line 0 and up.
 pub(crate) fn write_points(plan: u8, d: usize, n: u16, z: &[u16], out: &mut [u16])
-    requires { ⌜ (d ≤ 6) × ValidModulus n × InRange n d (now z) × (length (now out) ≡ lineCount plan n * d) ⌝ }
+    requires { ⌜ (d ≤ axes) × ValidModulus n × InRange n d (now z) × (length (now out) ≡ lineCount plan n * d) ⌝ }
     ensures { λ _. ⌜ now (out .exit) ≡ pointList plan n (now (z .entry)) ⌝ }
 {
     let mut at = 0;

@@ -1,6 +1,8 @@
-// Product tables: for each axis the residues of the products of z's component with every component that a row can have. So the
+// Product tables: for each axis the residues of the products of z's component with every component that a row or a difference can have. So the
 // residue of a row is a sum of entries and one division, with no product and no sign in it.
 
+use crate::sizes::MIDDLE;
+use crate::sizes::PLACES;
 use crate::widths::wide32;
 ghost use mathlib.Core.Path.{_≡_};
 ghost use mathlib.Core.List.{map};
@@ -9,19 +11,20 @@ ghost use lib.IntN.{pos, natAbs};
 ghost use lib.ListN.{length, getD, take, drop};
 ghost use Rattle.rank1.specs.Residue.{residueAt};
 ghost use Rattle.rank1.specs.Valid.{ValidModulus, ValidCall};
+ghost use Rattle.planner.specs.Sizes.{axes, largestModulus, largestSize, places, productRoom};
 ghost use Rattle.planner.specs.Inner.{place, Products, AxisSet, Covered, RowReady, Ready};
 
 // Where the product of x stands among the places of its axis.
 pub(crate) fn place_of(x: i16) -> usize
-    requires { ⌜ natAbs x ≤ 255 ⌝ }
-    ensures { λ r. ⌜ (r ≡ place x) × (r < 512) ⌝ }
+    requires { ⌜ natAbs x ≤ largestSize ⌝ }
+    ensures { λ r. ⌜ (r ≡ place x) × (r < places) ⌝ }
 {
-    (x + 255) as usize
+    (x + MIDDLE as i16) as usize
 }
 
 // The size of x.
 fn size_of(x: i16) -> usize
-    requires { ⌜ natAbs x ≤ 255 ⌝ }
+    requires { ⌜ natAbs x ≤ largestSize ⌝ }
     ensures { λ r. ⌜ r ≡ natAbs x ⌝ }
 {
     if x < 0 { (-x) as usize } else { x as usize }
@@ -29,7 +32,7 @@ fn size_of(x: i16) -> usize
 
 // The largest size of a component.
 pub(crate) fn largest(rows: &[i16]) -> usize
-    requires { ⌜ Covered 255 (now rows) ⌝ }
+    requires { ⌜ Covered largestSize (now rows) ⌝ }
     ensures { λ r. ⌜ Covered r (now (rows .entry)) ⌝ }
 {
     let mut top = 0;
@@ -43,7 +46,7 @@ pub(crate) fn largest(rows: &[i16]) -> usize
 }
 
 // The residue of the negative of a number with residue p.
-fn negative(p: u16, n: u16) -> u16
+pub(crate) fn negative(p: u16, n: u16) -> u16
     requires { ⌜ p < n ⌝ }
     ensures { λ r. ⌜ (r ≡ (n - p) % n) × (r < n) ⌝ }
 {
@@ -52,7 +55,7 @@ fn negative(p: u16, n: u16) -> u16
 
 // The residue of a sum of two residues.
 pub(crate) fn sum_of(p: u16, q: u16, n: u16) -> u16
-    requires { ⌜ (p < n) × (q < n) × (n ≤ 8192) ⌝ }
+    requires { ⌜ (p < n) × (q < n) × (n ≤ largestModulus) ⌝ }
     ensures { λ r. ⌜ (r ≡ (p + q) % n) × (r < n) ⌝ }
 {
     let s = p + q;
@@ -61,10 +64,10 @@ pub(crate) fn sum_of(p: u16, q: u16, n: u16) -> u16
 
 // Sets the products of v on one axis, for the numbers of size at most top.
 pub(crate) fn set_axis(products: &mut [u16], axis: usize, v: u16, n: u16, top: usize)
-    requires { ⌜ (axis < 6) × (length (now products) ≡ 3072) × (v < n) × ValidModulus n × (top ≤ 255) ⌝ }
+    requires { ⌜ (axis < axes) × (length (now products) ≡ productRoom) × (v < n) × ValidModulus n × (top ≤ largestSize) ⌝ }
     ensures { λ _. ⌜ AxisSet n v axis top (now (products .entry)) (now (products .exit)) ⌝ }
 {
-    let middle = axis * 512 + 255;
+    let middle = axis * PLACES + MIDDLE;
     let mut p: u16 = 0;
     for x in 0..=top {
         products[middle + x] = p;
@@ -75,7 +78,7 @@ pub(crate) fn set_axis(products: &mut [u16], axis: usize, v: u16, n: u16, top: u
 
 // Sets the products of all components of z.
 fn prepare(z: &[u16], n: u16, top: usize, products: &mut [u16])
-    requires { ⌜ (length (now z) ≤ 6) × (length (now products) ≡ 3072) × ValidModulus n × (top ≤ 255) ⌝ }
+    requires { ⌜ (length (now z) ≤ axes) × (length (now products) ≡ productRoom) × ValidModulus n × (top ≤ largestSize) ⌝ }
     requires { ⌜ ((j : ℕ) → j < length (now z) → getD (now z) j 0 < n) ⌝ }
     ensures { λ _. ⌜ Products n (now (z .entry)) top (now (products .exit)) ⌝ }
 {
@@ -94,7 +97,7 @@ pub(crate) fn prepare_rows(
     products: &mut [u16],
 )
     requires { ⌜ ValidCall plan d (now rows) n (now z) ⌝ }
-    requires { ⌜ length (now products) ≡ 3072 ⌝ }
+    requires { ⌜ length (now products) ≡ productRoom ⌝ }
     ensures { λ _. ⌜ Ready d (now (rows .entry)) n (now (z .entry)) (now (products .exit)) ⌝ }
 {
     prepare(z, n, largest(rows), products);
@@ -117,7 +120,7 @@ pub(crate) fn row_residue(row: &[i16], z: &[u16], n: u16, products: &[u16]) -> u
 {
     let mut sum: u32 = 0;
     for j in 0..z.len() {
-        sum += wide32(products[j * 512 + place_of(row[j])]);
+        sum += wide32(products[j * PLACES + place_of(row[j])]);
     }
     (sum % wide32(n)) as u16
 }

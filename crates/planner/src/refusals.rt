@@ -4,6 +4,7 @@
 use crate::points::line_count;
 use crate::products::prepare_rows;
 use crate::rule::admits;
+use crate::sizes::PRODUCT_ROOM;
 use crate::sums::all_gather;
 use refusal::axes_refusal;
 use refusal::list_pair_refusal;
@@ -97,7 +98,7 @@ fn sums_refusal(plan: u8, d: usize, rows: &[i16], n: u16, z: &[u16], sums: &[i64
     requires { ⌜ length (now sums) ≡ n ⌝ }
     ensures { λ r. ⌜ r ≡ ungatherable plan (indexList d (now (rows .entry))) n (now (z .entry)) (now (sums .entry)) ⌝ }
 {
-    let mut products = [0u16; 3072];
+    let mut products = [0u16; PRODUCT_ROOM];
     prepare_rows(plan, d, rows, n, z, &mut products);
     if all_gather(plan, d, rows, n, z, &products, sums) {
         0

@@ -8,6 +8,9 @@ use crate::mirrors::nonzero_mask;
 use crate::products::prepare_rows;
 use crate::products::row_at;
 use crate::products::row_residue;
+use crate::sizes::LARGEST_MODULUS;
+use crate::sizes::MOST_MIRRORS;
+use crate::sizes::PRODUCT_ROOM;
 use crate::widths::wide;
 ghost use mathlib.Core.Path.{_≡_};
 ghost use mathlib.Core.Bool.{true, false};
@@ -19,10 +22,11 @@ ghost use Rattle.rank1.specs.Index.{indexList, rowCount};
 ghost use Rattle.rank1.specs.Rule.{Integrates, PlanA, Admissible};
 ghost use Rattle.rank1.specs.RuleTest.{admissible};
 ghost use Rattle.rank1.specs.Valid.{Nonnegative, ValidCall};
+ghost use Rattle.planner.specs.Sizes.{mostRows};
 ghost use Rattle.planner.specs.Inner.{Decides, Ready, Owners, Recorded, Clear, residueOf, clash};
 
 // Empties the first n entries of a table.
-fn clear(table: &mut [u16], n: usize)
+pub(crate) fn clear(table: &mut [u16], n: usize)
     requires { ⌜ n ≤ length (now table) ⌝ }
     ensures { λ _. ⌜ Clear n (now (table .exit)) ⌝ }
 {
@@ -86,7 +90,7 @@ fn all_mirrors_apart(
     ensures { λ r. ⌜ Decides r (PlanA (indexList d (now (rows .entry))) n (map pos (now (z .entry)))) ⌝ }
 {
     clear(taken, wide(n));
-    let mut residues = [0u16; 64];
+    let mut residues = [0u16; MOST_MIRRORS];
     let mut apart = true;
     'rows: for i in 0..rows.len() / d {
         let row = row_at(rows, i, d);
@@ -120,7 +124,7 @@ fn mirrors_apart(
     requires { ⌜ Owners (residueOf n (now z) (indexList d (now rows))) n (rowCount d (now rows)) (now owners) ⌝ }
     ensures { λ r. ⌜ Decides r (Admissible plan (indexList d (now (rows .entry))) n (map pos (now (z .entry)))) ⌝ }
 {
-    let mut residues = [0u16; 64];
+    let mut residues = [0u16; MOST_MIRRORS];
     let mut apart = true;
     'rows: for i in 0..rows.len() / d {
         let row = row_at(rows, i, d);
@@ -138,7 +142,7 @@ fn mirrors_apart(
 
 // Whether the owner of a residue forbids it to a mirror of row i.
 fn clashes(plan: u8, i: usize, owner: usize) -> bool
-    requires { ⌜ i < 512 ⌝ }
+    requires { ⌜ i < mostRows ⌝ }
     ensures { λ r. ⌜ r ≡ clash plan i owner ⌝ }
 {
     if owner == 0 {
@@ -185,8 +189,8 @@ pub(crate) fn admits(plan: u8, d: usize, rows: &[i16], n: u16, z: &[u16]) -> boo
     requires { ⌜ ValidCall plan d (now rows) n (now z) ⌝ }
     ensures { λ r. ⌜ r ≡ admissible plan (indexList d (now (rows .entry))) n (map pos (now (z .entry))) ⌝ }
 {
-    let mut products = [0u16; 3072];
-    let mut owners = [0u16; 8192];
+    let mut products = [0u16; PRODUCT_ROOM];
+    let mut owners = [0u16; LARGEST_MODULUS];
     prepare_rows(plan, d, rows, n, z, &mut products);
     rule_holds(plan, d, rows, n, z, &products, &mut owners)
 }

@@ -1,402 +1,302 @@
-// The searches: components are fixed from the first to the last by recursion; the number of unfixed ones falls at each call.
-// Before it goes deeper the search tests the plan's rule on the rows that are 0 from the next axis on, and on the groups of rows
-// that agree from there on (groups.rt): their residues hang on the fixed components alone. Before that it passes over the values
-// of a component that no First vector can have: a first component that neither is 0 nor divides n, under plan A one above n / 2,
-// and one below that of an earlier axis with which its axis can change places. What is known of a vector that the search passes
-// over is that no First vector begins so.
+// The search at one modulus: components are fixed from the first to the last by recursion; the number of unfixed ones falls at each
+// call. What is known of a value that the search passes over is that no first vector has it there. The prunes, each with its test
+// and its law (rank1 proofs, but for the steps in proofs/search):
+//
+// | prune | test | law |
+// |---|---|---|
+// | counting: fewer numbers than rows | moduli::start_of | few-hopeless |
+// | rows that end early break the rule | ends_hold | prune-whole (ends-none) |
+// | scaling: a first component is 0 or divides n | cannot_lead | first-component (lead-passed) |
+// | interchangeable axes: components rise | lowest, marks of axes.rt | swap-first (low-passed) |
+// | sign changes: no component above n / 2 | value_end, marks of flips.rt | flip-first, differences-flip (high-passed) |
+// | differences: no difference of a pair kept apart has residue 0 | sieve_at, sieve.rt | struck-out (forbidden-none) |
+//
+// The last vector is checked whole, so what the tables leave out costs time and no answer. Scaling holds only where all n values
+// of a component are tried; the other prunes hold with fewer values too.
 
-use crate::Plan;
-use crate::groups::set_groups;
-use crate::products::largest;
-use crate::products::row_at;
+use crate::levels::level_at;
 use crate::products::set_axis;
 use crate::rule::rule_holds;
+use crate::sieve::set_sums;
+use crate::sieve::sieve;
+use crate::sieve::sieve_first;
+use crate::sizes::AXES;
+use crate::sizes::LARGEST_MODULUS;
+use crate::sizes::LASTS;
+use crate::widths::wide;
 ghost use mathlib.Core.Path.{_≡_};
 ghost use mathlib.Core.Bool.{true, false};
-ghost use mathlib.Core.List.{_++_, List·Memᴰ};
-ghost use Prim.Native.Nat.{ℕ, _+_, _*_, _%_, _≤_, _<_};
-ghost use lib.Dec.{eqb};
-ghost use mathlib.Core.Bool.{_||_};
-ghost use lib.ListN.{length, getD, take, drop};
-ghost use Rattle.rank1.specs.Index.{indexList, rowCount};
+ghost use Prim.Native.Nat.{_+_, _*_, _≤_, _<_};
+ghost use lib.ListN.{length};
+ghost use Rattle.rank1.specs.Index.{indexList};
 ghost use Rattle.rank1.specs.Rule.{Admissible};
-ghost use Rattle.rank1.specs.Valid.{ValidList, ValidModulus};
-ghost use Rattle.rank1.specs.Axes.{swap, Interchangeable};
-ghost use Rattle.planner.specs.Inner.{Decides, Covered};
-ghost use Rattle.planner.specs.Stage.{zeroFrom, searched, otherAxis, Swaps, LevelsTo, Levels, Stage, Fine, NoFirstFrom, KeptBelow, Falls, RuledOut, Tried, Completed, Decided, Ascended, PlanBetween, Kept};
+ghost use Rattle.planner.specs.Sizes.{axes, largestModulus};
+ghost use Rattle.planner.specs.Stage.{Listed, Prefixed, NoneFrom, Raised, Lowest, ValueEnd, NextFree, CannotLead, Siftable, Sifted, Summable, SumsAdded, Triable, Tried, listTables, modulusTables, work, ruleOf, Stage, KeptBefore, Completed};
 
-// Whether a row is 0 from axis j on.
-fn ends_by(row: &[i16], j: usize) -> bool
-    requires { ⌜ j ≤ length (now row) ⌝ }
-    ensures { λ r. ⌜ r ≡ zeroFrom j (now (row .entry)) ⌝ }
+// What a search at one modulus is about; it goes down the recursion by value: the plan, the number of axes, the modulus, how many
+// values of a component are tried, the largest size of a component of a row or of a difference, the largest last component of a
+// difference, and whether every difference is struck (then the rows that end early need no test of their own).
+pub(crate) struct Search {
+    pub(crate) plan: u8,
+    pub(crate) d: usize,
+    pub(crate) n: u16,
+    pub(crate) values: u16,
+    pub(crate) top: usize,
+    pub(crate) tail: usize,
+    pub(crate) sieved: bool,
+}
+
+// The larger of two values where axes can change places.
+fn raised(low: u16, mark: u8, x: u16) -> u16
+    ensures { λ r. ⌜ Raised low mark x r ⌝ }
 {
-    for i in j..row.len() {
-        if row[i] != 0 {
-            return false;
+    if mark == 0 {
+        return low;
+    }
+    if low < x { x } else { low }
+}
+
+// The lowest value of component at: it is not below that of an earlier axis with which its axis can change places.
+fn lowest(at: usize, swaps: &[u8], z: &[u16]) -> u16
+    requires { ⌜ (at < axes) × (length (now swaps) ≡ axes * axes) × (at ≤ length (now z)) ⌝ }
+    ensures { λ r. ⌜ Lowest (now (swaps .entry)) at (now (z .entry)) r ⌝ }
+{
+    let mut low = 0;
+    for i in 0..at {
+        low = raised(low, swaps[i * AXES + at], z[i]);
+    }
+    low
+}
+
+// Where the values of component at end: behind n / 2 where the sign of its axis can change.
+fn value_end(n: u16, values: u16, at: usize, flips: &[u8]) -> u16
+    requires { ⌜ at < length (now flips) ⌝ }
+    ensures { λ r. ⌜ ValueEnd n values at (now (flips .entry)) r ⌝ }
+{
+    if flips[at] == 0 {
+        return values;
+    }
+    let half = n / 2;
+    if half < values { half + 1 } else { values }
+}
+
+// The first value from `from` on that is not struck; the end where there is none.
+fn next_free(base: usize, from: u16, end: u16, struck: &[u8]) -> u16
+    requires { ⌜ (base + end ≤ length (now struck)) × (base ≤ axes * largestModulus) ⌝ }
+    ensures { λ r. ⌜ NextFree base from end (now (struck .entry)) r ⌝ }
+{
+    let mut v = from;
+    while v < end {
+        if struck[base + wide(v)] == 0 {
+            return v;
         }
+        v += 1;
     }
-    true
+    end
 }
 
-// Copies row i of a run behind the first `at` numbers of another.
-fn copy_row(rows: &[i16], i: usize, d: usize, out: &mut [i16], at: usize)
-    requires { ⌜ ((i + 1) * d ≤ length (now rows)) × (at + d ≤ length (now out)) ⌝ }
-    ensures { λ _. ⌜ now (out .exit) ≡ take at (now (out .entry)) ++ take d (drop (i * d) (now (rows .entry))) ++ drop (at + d) (now (out .entry)) ⌝ }
+// Whether scaling rules v out as a first component: it neither is 0 nor divides n. It holds only where n values are tried.
+fn cannot_lead(s: Search, at: usize, v: u16) -> bool
+    ensures { λ r. ⌜ (r ≡ true → CannotLead s at v) ⌝ }
 {
-    let a = i * d;
-    for j in 0..d {
-        out[at + j] = rows[a + j];
+    if at != 0 {
+        return false;
     }
-}
-
-// Writes the rows that are 0 from axis j on to the front of out, in their order, and returns how many numbers they are.
-fn keep_ending(d: usize, rows: &[i16], j: usize, out: &mut [i16]) -> usize
-    requires { ⌜ (1 ≤ d) × (j ≤ d) × (length (now rows) ≡ rowCount d (now rows) * d) × (length (now rows) ≤ length (now out)) ⌝ }
-    ensures { λ r. ⌜ Kept d j (now (rows .entry)) (now (out .entry)) (now (out .exit)) r ⌝ }
-{
-    let mut at = 0;
-    for i in 0..rows.len() / d {
-        if ends_by(row_at(rows, i, d), j) {
-            copy_row(rows, i, d, out, at);
-            at += d;
-        }
+    if s.values != s.n {
+        return false;
     }
-    at
-}
-
-// The axis whose component stands at axis a where axes i and j have changed places.
-fn other_axis(a: usize, i: usize, j: usize) -> usize
-    ensures { λ r. ⌜ r ≡ otherAxis i j a ⌝ }
-{
-    if a == i {
-        return j;
-    }
-    if a == j { i } else { a }
-}
-
-// Whether a row is another with its components i and j exchanged.
-fn swapped_row_equal(row: &[i16], other: &[i16], i: usize, j: usize) -> bool
-    requires { ⌜ (length (now row) ≡ length (now other)) × (i < length (now other)) × (j < length (now other)) ⌝ }
-    ensures { λ r. ⌜ (r ≡ true → now (row .entry) ≡ swap i j (now (other .entry))) ⌝ }
-{
-    for a in 0..row.len() {
-        if row[a] != other[other_axis(a, i, j)] {
-            return false;
-        }
-    }
-    true
-}
-
-// Whether a row with its components i and j exchanged is one of the rows.
-fn stands_swapped(d: usize, rows: &[i16], row: &[i16], i: usize, j: usize) -> bool
-    requires { ⌜ (1 ≤ d) × (i < d) × (j < d) × (length (now row) ≡ d) × (length (now rows) ≡ rowCount d (now rows) * d) ⌝ }
-    ensures { λ r. ⌜ (r ≡ true → List·Memᴰ (swap i j (now (row .entry))) (indexList d (now (rows .entry)))) ⌝ }
-{
-    for t in 0..rows.len() / d {
-        if swapped_row_equal(row_at(rows, t, d), row, i, j) {
-            return true;
-        }
-    }
-    false
-}
-
-// Whether the list stays itself when axes i and j change places.
-fn axes_interchange(d: usize, rows: &[i16], i: usize, j: usize) -> bool
-    requires { ⌜ (1 ≤ d) × (i < d) × (j < d) × (length (now rows) ≡ rowCount d (now rows) * d) ⌝ }
-    ensures { λ r. ⌜ (r ≡ true → Interchangeable i j (indexList d (now (rows .entry)))) ⌝ }
-{
-    for t in 0..rows.len() / d {
-        if !stands_swapped(d, rows, row_at(rows, t, d), i, j) {
-            return false;
-        }
-    }
-    true
-}
-
-// Marks the pairs of axes that can change places.
-fn set_swaps(d: usize, rows: &[i16], shape: &mut [usize])
-    requires { ⌜ (1 ≤ d) × (d ≤ 6) × (length (now rows) ≡ rowCount d (now rows) * d) × (length (now shape) ≡ 43) × Swaps d (indexList d (now rows)) (now shape) ⌝ }
-    ensures { λ _. ⌜ Swaps d (indexList d (now (rows .entry))) (now (shape .exit)) ⌝ }
-{
-    for j in 1..d {
-        for i in 0..j {
-            if axes_interchange(d, rows, i, j) {
-                shape[7 + i * 6 + j] = 1;
-            }
-        }
-    }
-}
-
-// The levels of a list.
-fn set_levels(plan: u8, d: usize, rows: &[i16], top: usize, runs: &mut [i16], shape: &mut [usize])
-    requires { ⌜ (plan ≤ 4) × ValidList plan d (now rows) × Covered top (now rows) × Covered top (now runs) × (length (now runs) ≡ 21504) × (length (now shape) ≡ 43) × Swaps d (indexList d (now rows)) (now shape) ⌝ }
-    ensures { λ _. ⌜ LevelsTo d top (d + 1) (now (rows .entry)) (now (runs .exit)) (now (shape .exit)) ⌝ }
-{
-    for j in 0..d + 1 {
-        let a = j * 3072;
-        let e = a + 3072;
-        shape[j] = keep_ending(d, rows, j, &mut runs[a..e]);
-    }
-}
-
-// The levels and the groups of a list.
-fn set_up(plan: u8, d: usize, rows: &[i16], top: usize, runs: &mut [i16], shape: &mut [usize])
-    requires { ⌜ (plan ≤ 4) × ValidList plan d (now rows) × Covered top (now rows) × Covered top (now runs) × (length (now runs) ≡ 39936) × (length (now shape) ≡ 2612) × ((i : ℕ) → getD (now shape) i 0 ≡ 0) ⌝ }
-    ensures { λ _. ⌜ (Levels plan d top (now (runs .exit)) (now (shape .exit))) × (searched d (now (runs .exit)) (now (shape .exit)) ≡ indexList d (now (rows .entry))) ⌝ }
-{
-    set_swaps(d, rows, &mut shape[..43]);
-    set_levels(plan, d, rows, top, &mut runs[..21504], &mut shape[..43]);
-    set_groups(plan, d, rows, top, &mut runs[21504..], &mut shape[43..]);
-}
-
-// The rule on the rows that are 0 from axis at on.
-fn rule_at(
-    plan: u8,
-    d: usize,
-    runs: &[i16],
-    shape: &[usize],
-    top: usize,
-    n: u16,
-    at: usize,
-    z: &[u16],
-    products: &[u16],
-    owners: &mut [u16],
-) -> bool
-    requires { ⌜ Stage plan d top (now runs) (now shape) n at (now z) (now products) (now owners) ⌝ }
-    ensures { λ r. ⌜ Decides r (Fine plan d (now (runs .entry)) (now (shape .entry)) n at (now (z .entry))) ⌝ }
-{
-    let a = at * 3072;
-    let e = a + shape[at];
-    rule_holds(plan, d, &runs[a..e], n, &z[..at], products, owners)
-}
-
-// The rule on the groups of axis at. False where it fails on one: then no first vector begins as z.
-fn groups_hold(
-    plan: u8,
-    d: usize,
-    runs: &[i16],
-    shape: &[usize],
-    top: usize,
-    n: u16,
-    at: usize,
-    z: &[u16],
-    products: &[u16],
-    owners: &mut [u16],
-) -> bool
-    requires { ⌜ Stage plan d top (now runs) (now shape) n at (now z) (now products) (now owners) ⌝ }
-    ensures { λ r. ⌜ (r ≡ false → NoFirstFrom (Admissible plan (searched d (now (runs .entry)) (now (shape .entry)))) d n at (now (z .entry))) ⌝ }
-{
-    for g in shape[43 + at]..shape[44 + at] {
-        let a = 21504 + shape[51 + g];
-        let e = 21504 + shape[52 + g];
-        if !rule_holds(plan, d, &runs[a..e], n, &z[..at], products, owners) {
-            return false;
-        }
-    }
-    true
-}
-
-// Whether v can be the first component of a first vector at n: it is 0 or divides n.
-fn can_lead(v: u16, n: u16) -> bool
-    ensures { λ r. ⌜ r ≡ (eqb v 0 || eqb (n % v) 0) ⌝ }
-{
     if v == 0 {
+        return false;
+    }
+    s.n % v != 0
+}
+
+// The rule on the rows that are 0 from axis at on; the sieve has done it where every difference is struck. False where it fails: no
+// vector of whole numbers that begins so meets the rule.
+fn ends_hold(
+    s: Search,
+    at: usize,
+    rows: &[i16],
+    levels: &[i16],
+    sizes: &[usize],
+    z: &[u16],
+    products: &[u16],
+    owners: &mut [u16],
+) -> bool
+    requires { ⌜ Listed (s .plan) (s .d) (s .top) (now rows) (now levels) (now sizes) ⌝ }
+    requires { ⌜ Prefixed s at (now z) (now products) (now owners) ⌝ }
+    ensures { λ r. ⌜ (r ≡ false → NoneFrom (Admissible (s .plan) (indexList (s .d) (now (rows .entry)))) (s .d) (s .n) at (now (z .entry))) ⌝ }
+{
+    if s.sieved {
         return true;
     }
-    n % v == 0
+    rule_holds(
+        s.plan,
+        s.d,
+        level_at(at, levels, sizes),
+        s.n,
+        &z[..at],
+        products,
+        owners,
+    )
 }
 
-// Whether v is below the component of an earlier axis with which axis at can change places.
-fn falls(shape: &[usize], at: usize, v: u16, z: &[u16]) -> bool
-    requires { ⌜ (43 ≤ length (now shape)) × (at < 6) × (at ≤ length (now z)) ⌝ }
-    ensures { λ r. ⌜ (r ≡ true → Falls (now (shape .entry)) at v (now (z .entry))) ⌝ }
-{
-    for i in 0..at {
-        if v < z[i] {
-            if shape[7 + i * 6 + at] != 0 {
-                return true;
-            }
-        }
-    }
-    false
-}
-
-// Whether no first vector that begins as z has v at axis at, whatever the rows there.
-fn ruled_out(plan: u8, shape: &[usize], n: u16, at: usize, v: u16, z: &[u16]) -> bool
-    requires { ⌜ (43 ≤ length (now shape)) × (at < 6) × (at ≤ length (now z)) × (v < 8192) ⌝ }
-    ensures { λ r. ⌜ (r ≡ true → RuledOut plan (now (shape .entry)) n at v (now (z .entry))) ⌝ }
+// Marks the values of component at that a difference forbids.
+fn sieve_at(
+    n: u16,
+    at: usize,
+    tail: usize,
+    components: &[i16],
+    bounds: &[u16],
+    solutions: &[u16],
+    starts: &[usize],
+    steps: &[u16],
+    sums: &[u16],
+    products: &[u16],
+    struck: &mut [u8],
+)
+    requires { ⌜ Siftable n at tail (now components) (now bounds) (now products) (now sums) (now solutions) (now starts) (now steps) (now struck) ⌝ }
+    ensures { λ _. ⌜ Sifted n at (now (components .entry)) (now (bounds .entry)) (now (products .entry)) (now (sums .entry)) (now (struck .entry)) (now (struck .exit)) ⌝ }
 {
     if at == 0 {
-        return !can_lead(v, n);
+        let end = wide(n);
+        sieve_first(n, tail, bounds, steps, &mut struck[..end]);
+        return;
     }
-    if plan == 2 {
-        if n < 2 * v {
-            return true;
-        }
-    }
-    falls(shape, at, v, z)
+    sieve(
+        n,
+        at - 1,
+        tail,
+        components,
+        bounds,
+        solutions,
+        starts,
+        steps,
+        sums,
+        products,
+        struck,
+    );
 }
 
-// Sets component at to v. False where no first vector begins so: the value is ruled out, or the rule fails on the rows that end
-// there or on a group there.
-fn try_component(
-    plan: u8,
-    d: usize,
-    runs: &[i16],
-    shape: &[usize],
-    top: usize,
+// Sets section at of the sums, behind the first axis: the parts before axis at of the differences that end behind it. It is done only
+// where a value of component at is left, so that a prefix that ends here costs no pass over the later differences.
+fn add_sums(
     n: u16,
+    d: usize,
+    at: usize,
+    components: &[i16],
+    bounds: &[u16],
+    products: &[u16],
+    sums: &mut [u16],
+)
+    requires { ⌜ Summable n d at (now components) (now bounds) (now products) (now sums) ⌝ }
+    ensures { λ _. ⌜ SumsAdded n d at (now (components .entry)) (now (bounds .entry)) (now (products .entry)) (now (sums .entry)) (now (sums .exit)) ⌝ }
+{
+    if at == 0 {
+        return;
+    }
+    if at + 1 < d {
+        let from = wide(bounds[(at + 1) * LASTS]);
+        let to = wide(bounds[d * LASTS]);
+        set_sums(n, at - 1, from, to, components, products, sums);
+    }
+}
+
+// Sets component at to v. False where no first vector begins so: v cannot lead, or the rule fails on the rows that end there.
+fn try_component(
+    s: Search,
     at: usize,
     v: u16,
+    rows: &[i16],
+    levels: &[i16],
+    sizes: &[usize],
     z: &mut [u16],
     products: &mut [u16],
     owners: &mut [u16],
 ) -> bool
-    requires { ⌜ Stage plan d top (now runs) (now shape) n at (now z) (now products) (now owners) ⌝ }
-    requires { ⌜ (at < d) × (v < n) ⌝ }
-    ensures { λ r. ⌜ Tried plan d top (now (runs .entry)) (now (shape .entry)) n at v (now (z .entry)) (now (products .entry)) (now (z .exit)) (now (products .exit)) (now (owners .exit)) r ⌝ }
+    requires { ⌜ Triable s at v (now rows) (now levels) (now sizes) (now z) (now products) (now owners) ⌝ }
+    ensures { λ r. ⌜ Tried s at v (now (rows .entry)) (now (z .entry)) (now (products .entry)) (now (z .exit)) (now (products .exit)) (now (owners .exit)) r ⌝ }
 {
     z[at] = v;
-    if ruled_out(plan, shape, n, at, v, z) {
+    if cannot_lead(s, at, v) {
         return false;
     }
-    set_axis(products, at, v, n, top);
-    if !rule_at(plan, d, runs, shape, top, n, at + 1, z, products, owners) {
-        return false;
-    }
-    groups_hold(plan, d, runs, shape, top, n, at + 1, z, products, owners)
+    set_axis(products, at, v, s.n, s.top);
+    ends_hold(s, at + 1, rows, levels, sizes, z, products, owners)
 }
 
-// Completes z from component at on.
-fn complete(
-    plan: u8,
-    d: usize,
-    runs: &[i16],
-    shape: &[usize],
-    top: usize,
-    n: u16,
+// Completes z from component at on: the values that are left are tried from the lowest up. The vector is checked whole.
+pub(crate) fn complete(
+    s: Search,
     at: usize,
+    rows: &[i16],
+    levels: &[i16],
+    sizes: &[usize],
+    swaps: &[u8],
+    flips: &[u8],
+    components: &[i16],
+    bounds: &[u16],
+    solutions: &[u16],
+    starts: &[usize],
+    steps: &[u16],
     z: &mut [u16],
+    sums: &mut [u16],
     products: &mut [u16],
+    struck: &mut [u8],
     owners: &mut [u16],
 ) -> bool
-    requires { ⌜ Stage plan d top (now runs) (now shape) n at (now z) (now products) (now owners) ⌝ }
-    requires { ⌜ Fine plan d (now runs) (now shape) n at (now z) ⌝ }
-    ensures { λ r. ⌜ Completed (Admissible plan (searched d (now (runs .entry)) (now (shape .entry)))) d n at (now (z .entry)) (now (z .exit)) r ⌝ }
-    ensures { λ _. ⌜ KeptBelow at (now (products .entry)) (now (products .exit)) ⌝ }
+    requires { ⌜ Stage s (listTables (now rows) (now levels) (now sizes) (now swaps) (now flips) (now components) (now bounds)) (modulusTables (now solutions) (now starts) (now steps)) at (work (now z) (now sums) (now products) (now struck) (now owners)) ⌝ }
+    ensures { λ r. ⌜ Completed (ruleOf (s .plan) (s .d) (listTables (now (rows .entry)) (now (levels .entry)) (now (sizes .entry)) (now (swaps .entry)) (now (flips .entry)) (now (components .entry)) (now (bounds .entry)))) (s .d) (s .n) (s .values) at (now (z .entry)) (now (z .exit)) r ⌝ }
+    ensures { λ _. ⌜ KeptBefore at (work (now (z .entry)) (now (sums .entry)) (now (products .entry)) (now (struck .entry)) (now (owners .entry))) (work (now (z .exit)) (now (sums .exit)) (now (products .exit)) (now (struck .exit)) (now (owners .exit))) ⌝ }
 {
-    if at == d {
-        return true;
+    if at == s.d {
+        return rule_holds(s.plan, s.d, rows, s.n, z, products, owners);
     }
-    for v in 0..n {
-        if try_component(plan, d, runs, shape, top, n, at, v, z, products, owners) {
-            if complete(plan, d, runs, shape, top, n, at + 1, z, products, owners) {
+    sieve_at(
+        s.n,
+        at,
+        s.tail,
+        components,
+        bounds,
+        solutions,
+        starts,
+        steps,
+        sums,
+        products,
+        struck,
+    );
+    let base = at * LARGEST_MODULUS;
+    let end = value_end(s.n, s.values, at, flips);
+    let mut v = next_free(base, lowest(at, swaps, z), end, struck);
+    if end <= v {
+        return false;
+    }
+    add_sums(s.n, s.d, at, components, bounds, products, sums);
+    while v < end {
+        if try_component(s, at, v, rows, levels, sizes, z, products, owners) {
+            if complete(
+                s,
+                at + 1,
+                rows,
+                levels,
+                sizes,
+                swaps,
+                flips,
+                components,
+                bounds,
+                solutions,
+                starts,
+                steps,
+                z,
+                sums,
+                products,
+                struck,
+                owners,
+            ) {
                 return true;
             }
         }
+        v = next_free(base, v + 1, end, struck);
     }
     false
-}
-
-// The first vector at n, or n fails with every vector. Under plans 1 to 4 a modulus below the number of rows fails at once.
-fn first_vector(
-    plan: u8,
-    d: usize,
-    runs: &[i16],
-    shape: &[usize],
-    top: usize,
-    n: u16,
-    z: &mut [u16],
-    products: &mut [u16],
-    owners: &mut [u16],
-) -> bool
-    requires { ⌜ Levels plan d top (now runs) (now shape) ⌝ }
-    requires { ⌜ ValidModulus n × (length (now z) ≡ d) × (length (now products) ≡ 3072) × (n ≤ length (now owners)) ⌝ }
-    ensures { λ r. ⌜ Decided (Admissible plan (searched d (now (runs .entry)) (now (shape .entry)))) d n (now (z .exit)) r ⌝ }
-{
-    if 0 < plan {
-        if (n as usize) < shape[d] / d {
-            return false;
-        }
-    }
-    if !rule_at(plan, d, runs, shape, top, n, 0, z, products, owners) {
-        return false;
-    }
-    complete(plan, d, runs, shape, top, n, 0, z, products, owners)
-}
-
-// Runs the moduli from low to high: the first that does not fail, with its first vector in z; 0 where all fail.
-fn first_modulus(
-    plan: u8,
-    d: usize,
-    runs: &[i16],
-    shape: &[usize],
-    top: usize,
-    low: u16,
-    high: u16,
-    z: &mut [u16],
-    products: &mut [u16],
-    owners: &mut [u16],
-) -> u16
-    requires { ⌜ Levels plan d top (now runs) (now shape) ⌝ }
-    requires { ⌜ (1 ≤ low) × (high ≤ 8192) × (length (now z) ≡ d) × (length (now products) ≡ 3072) × (length (now owners) ≡ 8192) ⌝ }
-    ensures { λ r. ⌜ Ascended (Admissible plan (searched d (now (runs .entry)) (now (shape .entry)))) d low high (now (z .exit)) r ⌝ }
-{
-    let mut n = low;
-    while n <= high {
-        if first_vector(plan, d, runs, shape, top, n, z, products, owners) {
-            return n;
-        }
-        n += 1;
-    }
-    0
-}
-
-// Copies from into to.
-fn copy(to: &mut [u16], from: &[u16])
-    requires { ⌜ length (now to) ≡ length (now from) ⌝ }
-    ensures { λ _. ⌜ now (to .exit) ≡ now (from .entry) ⌝ }
-{
-    for i in 0..to.len() {
-        to[i] = from[i];
-    }
-}
-
-// The first plan among the moduli from low to high for a valid list. The vector is built in an array of its own, so that the
-// lent places are written only where there is a plan.
-pub(crate) fn first_plan(
-    plan: u8,
-    d: usize,
-    rows: &[i16],
-    low: u16,
-    high: u16,
-    z: &mut [u16],
-) -> Plan
-    requires { ⌜ (plan ≤ 4) × ValidList plan d (now rows) × (1 ≤ low) × (high ≤ 8192) × (length (now z) ≡ d) ⌝ }
-    ensures { λ r. ⌜ PlanBetween (Admissible plan (indexList d (now (rows .entry)))) d low high (now (z .entry)) (now (z .exit)) r ⌝ }
-{
-    let mut runs = [0i16; 39936];
-    let mut shape = [0usize; 2612];
-    let mut products = [0u16; 3072];
-    let mut owners = [0u16; 8192];
-    let mut x = [0u16; 6];
-    let top = largest(rows);
-    set_up(plan, d, rows, top, &mut runs, &mut shape);
-    let n = first_modulus(
-        plan,
-        d,
-        &runs,
-        &shape,
-        top,
-        low,
-        high,
-        &mut x[..d],
-        &mut products,
-        &mut owners,
-    );
-    if n == 0 {
-        return Plan::Refused(9);
-    }
-    copy(z, &x[..d]);
-    Plan::Found(n)
 }

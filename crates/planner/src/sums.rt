@@ -2,6 +2,7 @@
 
 use crate::mirrors::residues_under;
 use crate::products::row_at;
+use crate::sizes::MOST_MIRRORS;
 use crate::widths::wide;
 ghost use mathlib.Core.Path.{_≡_};
 ghost use mathlib.Core.Bool.{true};
@@ -13,6 +14,7 @@ ghost use lib.ListN.{length, getD, take};
 ghost use Rattle.rank1.specs.Tests.{every};
 ghost use Rattle.rank1.specs.Index.{rowCount, indexList};
 ghost use Rattle.rank1.specs.Sums.{in32, residueMap, spreadSums, gathers, gatheredTerms};
+ghost use Rattle.planner.specs.Sizes.{mostMirrors};
 ghost use Rattle.planner.specs.Inner.{RowReady, Ready, occurrences, Addable, divides, EntryOf};
 
 // A row's residue and its c.
@@ -23,7 +25,7 @@ struct Entry {
 
 // How often x stands among the first count numbers.
 fn occurrences_of(x: u16, residues: &[u16], count: usize) -> u16
-    requires { ⌜ (count ≤ 64) × (count ≤ length (now residues)) ⌝ }
+    requires { ⌜ (count ≤ mostMirrors) × (count ≤ length (now residues)) ⌝ }
     ensures { λ r. ⌜ r ≡ occurrences x (take count (now (residues .entry))) ⌝ }
 {
     let mut c: u16 = 0;
@@ -40,7 +42,7 @@ fn entry_of(plan: u8, row: &[i16], z: &[u16], n: u16, products: &[u16]) -> Entry
     requires { ⌜ RowReady n (now z) (now row) (now products) ⌝ }
     ensures { λ r. ⌜ EntryOf plan n (now (z .entry)) (now (row .entry)) (r .residue) (r .copies) ⌝ }
 {
-    let mut residues = [0u16; 64];
+    let mut residues = [0u16; MOST_MIRRORS];
     let count = residues_under(plan, row, z, n, products, &mut residues);
     let residue = residues[0];
     let copies = occurrences_of(residue, &residues, count);
@@ -128,7 +130,7 @@ pub(crate) fn write_sums(
     ensures { λ _. ⌜ (now (sums .exit) ≡ spreadSums plan n (map pos (now (z .entry))) (indexList d (now (rows .entry))) (now (terms .entry))) × (every in32 (now (terms .entry)) ≡ true) ⌝ }
 {
     clear_sums(sums);
-    let mut residues = [0u16; 64];
+    let mut residues = [0u16; MOST_MIRRORS];
     for i in 0..terms.len() {
         let count = residues_under(plan, row_at(rows, i, d), z, n, products, &mut residues);
         add_term(long(terms[i]), &residues, count, sums);
@@ -144,7 +146,7 @@ fn fits_term(z: i64) -> bool
 
 // Whether s is a multiple of c whose quotient has 32 bits.
 fn divides_evenly(s: i64, c: u16) -> bool
-    requires { ⌜ (1 ≤ c) × (c ≤ 64) ⌝ }
+    requires { ⌜ (1 ≤ c) × (c ≤ mostMirrors) ⌝ }
     ensures { λ r. ⌜ r ≡ divides s c ⌝ }
 {
     let k = c as i64;
@@ -156,7 +158,7 @@ fn divides_evenly(s: i64, c: u16) -> bool
 
 // The quotient of a sum by c.
 fn quotient_of(s: i64, c: u16) -> i32
-    requires { ⌜ (1 ≤ c) × (c ≤ 64) × (divides s c ≡ true) ⌝ }
+    requires { ⌜ (1 ≤ c) × (c ≤ mostMirrors) × (divides s c ≡ true) ⌝ }
     ensures { λ r. ⌜ r ≡ quotZ s (pos c) ⌝ }
 {
     let k = c as i64;

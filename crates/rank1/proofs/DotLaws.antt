@@ -1,14 +1,16 @@
--- The laws of h·z.
+-- The laws of h·z: residues of its components, multiples, the sum as code makes it, and rows that are 0 from an axis on.
 use mathlib.Core.Path.{_≡_, refl, sym, _∙_, ap}
 use mathlib.Core.Logic.{_↔_}
 use mathlib.Core.List.{List, [], _∷_, map}
-use Prim.Native.Nat.{ℕ, _+_, _*_, _%_, _<_}
+use Prim.Native.Nat.{ℕ, zero, suc, _+_, _*_, _%_, _<_}
 use native.Mathlib.Nat.{mul-assoc, mul-comm, one-mul, mul-add, add-assoc, add-mod-mod, mod-add-mod}
 use native.Mathlib.Omega.{arith}
-use lib.IntN.{ℤ, pos, _+ℤ_, _-ℤ_, _*ℤ_, negℤ, negℤ-+ℤ, *ℤ-zero}
-use lib.ListN.{length}
+use lib.IntN.{ℤ, pos, _+ℤ_, _*ℤ_, negℤ, negℤ-+ℤ, zero-*ℤ, *ℤ-zero, +ℤ-idl}
+use lib.ListN.{getD, drop}
+use lib.Seq.{getD-drop}
 use Rattle.rank1.specs.Residue.{residue, dot}
-use Rattle.rank1.proofs.ResidueLaws.{residue-add, residue-mul, residue-idem, residue-mod, difference-zero, zero-difference}
+use Rattle.rank1.specs.Axes.{ZeroFrom}
+use Rattle.rank1.proofs.ResidueLaws.{residue-add, residue-mul, residue-idem, residue-mod}
 use Rattle.rank1.proofs.Modulo.{mod-mul-left, mod-mul-right}
 use Rattle.rank1.proofs.Whole as W
 
@@ -81,12 +83,7 @@ dot-turn n s t x z hs zs h e =
     ∙ sym (add-mod-mod s (t + residue n (dot hs zs)) n)
     ∙ ap (λ (k : ℕ). (s + k) % n) (sym (mod-add-mod t n (residue n (dot hs zs))) ∙ ap (λ (k : ℕ). (k + residue n (dot hs zs)) % n) e ∙ sym (residue-add n (x *ℤ z) (dot hs zs) h))
 
--- ---- differences of rows
-abbrev pub minus : List ℤ → List ℤ → List ℤ
-minus [] ks = []
-minus (h ∷ hs) [] = []
-minus (h ∷ hs) (k ∷ ks) = (h -ℤ k) ∷ minus hs ks
-
+-- ---- (-h)·z ≡ -(h·z)
 pub dot-neg : (hs zs : List ℤ) → dot (map negℤ hs) zs ≡ negℤ (dot hs zs)
 dot-neg [] zs = refl
 dot-neg (h ∷ hs) [] = refl
@@ -95,20 +92,40 @@ dot-neg (h ∷ hs) (z ∷ zs) =
     ∙ ap (λ (x : ℤ). negℤ (h *ℤ z) +ℤ x) (dot-neg hs zs)
     ∙ sym (negℤ-+ℤ (h *ℤ z) (dot hs zs))
 
-pub dot-minus : (hs ks zs : List ℤ) → length hs ≡ length ks → dot (minus hs ks) zs ≡ dot hs zs -ℤ dot ks zs
-dot-minus [] [] zs e = refl
-dot-minus [] (k ∷ ks) zs e = absurd (omega arith)
-dot-minus (h ∷ hs) [] zs e = absurd (omega arith)
-dot-minus (h ∷ hs) (k ∷ ks) [] e = refl
-dot-minus (h ∷ hs) (k ∷ ks) (z ∷ zs) e =
-    ap (λ (x : ℤ). x +ℤ dot (minus hs ks) zs) (W.add-mul h (negℤ k) z ∙ ap (λ (x : ℤ). h *ℤ z +ℤ x) (W.neg-mul k z))
-    ∙ ap (λ (x : ℤ). (h *ℤ z +ℤ negℤ (k *ℤ z)) +ℤ x) (dot-minus hs ks zs (omega arith))
-    ∙ W.middle (h *ℤ z) (negℤ (k *ℤ z)) (dot hs zs) (negℤ (dot ks zs))
-    ∙ ap (λ (x : ℤ). (h *ℤ z +ℤ dot hs zs) +ℤ x) (sym (negℤ-+ℤ (k *ℤ z) (dot ks zs)))
+-- ---- rows that are 0 from an axis on: what z has from there on does not count
+-- two vectors of whole numbers have the same components below j; one that a vector lacks counts as 0
+abbrev pub AgreeWhole : ℕ → List ℤ → List ℤ → Type 0
+AgreeWhole j y z = (i : ℕ) → i < j → getD y i (pos 0) ≡ getD z i (pos 0)
 
--- two rows have equal residues where their difference has the residue 0
-pub equal-by-difference : (n : ℕ) (hs ks zs : List ℤ) → 0 < n → length hs ≡ length ks → (residue n (dot hs zs) ≡ residue n (dot ks zs)) ↔ (residue n (dot (minus hs ks) zs) ≡ 0)
-equal-by-difference n hs ks zs h e = (
-  (λ p. ap (residue n) (dot-minus hs ks zs e) ∙ difference-zero n (dot hs zs) (dot ks zs) h p),
-  (λ p. zero-difference n (dot hs zs) (dot ks zs) h (ap (residue n) (sym (dot-minus hs ks zs e)) ∙ p)),
-)
+-- 0 from the start on: nothing is left of the sum
+pub dot-nothing : (h z : List ℤ) → ZeroFrom 0 h → dot h z ≡ pos 0
+dot-nothing [] z f = refl
+dot-nothing (x ∷ h) [] f = refl
+dot-nothing (x ∷ h) (y ∷ z) f =
+    ap (λ (a : ℤ). a *ℤ y +ℤ dot h z) (f 0 (omega arith))
+    ∙ ap (λ (a : ℤ). a +ℤ dot h z) (zero-*ℤ y)
+    ∙ +ℤ-idl (dot h z)
+    ∙ dot-nothing h z (λ i l. f (suc i) (omega arith))
+
+-- a vector without components
+dot-empty : (h : List ℤ) → dot h [] ≡ pos 0
+dot-empty [] = refl
+dot-empty (x ∷ h) = refl
+
+-- the first axis by itself
+dot-head : (x : ℤ) (h z : List ℤ) → dot (x ∷ h) z ≡ x *ℤ getD z 0 (pos 0) +ℤ dot h (drop 1 z)
+dot-head x h [] = sym (ap (λ (a : ℤ). a +ℤ dot h []) (*ℤ-zero x) ∙ +ℤ-idl (dot h []) ∙ dot-empty h)
+dot-head x h (a ∷ z) = refl
+
+-- only the components below j count
+pub dot-agrees : (j : ℕ) (h y z : List ℤ) → ZeroFrom j h → AgreeWhole j y z → dot h y ≡ dot h z
+dot-agrees zero h y z f g = dot-nothing h y f ∙ sym (dot-nothing h z f)
+dot-agrees (suc j) [] y z f g = refl
+dot-agrees (suc j) (x ∷ h) y z f g =
+    dot-head x h y
+    ∙ ap (λ (a : ℤ). x *ℤ a +ℤ dot h (drop 1 y)) (g 0 (omega arith))
+    ∙ ap (λ (k : ℤ). x *ℤ getD z 0 (pos 0) +ℤ k) (dot-agrees j h (drop 1 y) (drop 1 z) (λ i l. f (suc i) (omega arith)) later)
+    ∙ sym (dot-head x h z)
+  where
+    later : AgreeWhole j (drop 1 y) (drop 1 z)
+    later i l = getD-drop 1 y i (pos 0) ∙ g (1 + i) (omega arith) ∙ sym (getD-drop 1 z i (pos 0))

@@ -32,7 +32,7 @@ module _ (rule : Rule) (scales : Scales rule) (d n : ℕ) (z : List ℕ) (h : 0 
   -- no multiple of the first vector by a number with an inverse comes before it
   no-lower : (u : ℕ) → Coprime u n → (u * getD z j 0) % n < getD z j 0 → ⊥
   no-lower u c l =
-      none-before rule d n z f (times n u z) (times-ranged n d u z h (f .ranged .size))
+      none-before rule d n n z f (times n u z) (times-ranged n d u z h (f .ranged .size))
       (scales n u z h c (f .admissible))
       (times-before n u z j (omega (arith, f .ranged .size)) o l)
 

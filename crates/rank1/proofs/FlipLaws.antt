@@ -1,5 +1,6 @@
--- Plan A does not see the sign of a component of the vector: with another sign at one component it is admissible as before. So
--- no component of its first vector is above n / 2, for n - x in the place of such an x would come before.
+-- The other sign at one component of the vector. Plan A does not see it (`plan-a-flips`; the other plans: DifferenceLaws.antt). Where
+-- a rule does not see it, that component of the first vector, whatever the bound of the components, is not above n / 2, for n - x in
+-- the place of such an x would come before (`flip-first`).
 use mathlib.Core.Path.{_≡_, refl, sym, _∙_, ap, subst}
 use mathlib.Core.Logic.{_≢_}
 use mathlib.Core.List.{List, [], _∷_, map, List·Memᴰ}
@@ -12,17 +13,13 @@ use lib.ListN.{length, getD, length-map, List·getD-map}
 use Rattle.rank1.specs.Residue.{residue, dot, residueAt}
 use Rattle.rank1.specs.Index.{mirrored}
 use Rattle.rank1.specs.Rule.{Rule, Admissible}
-use Rattle.rank1.specs.Search.{First}
+use Rattle.rank1.specs.Search.{FirstBelow}
+use Rattle.rank1.specs.Axes.{flip}
+use Rattle.rank1.specs.Differences.{Apart, Flips}
 use Rattle.rank1.proofs.Whole.{neg-mul}
 use Rattle.rank1.proofs.MirrorLaws.{sizes, mirror-sizes, sizes-mirror, mirrored-in, mirrored-out}
-use Rattle.rank1.proofs.RuleLaws.{Apart, Reduces}
-use Rattle.rank1.proofs.SymmetryLaws.{moved, none-lower}
-
--- the other sign at component j
-abbrev pub flip : ℕ → List ℤ → List ℤ
-flip j [] = []
-flip zero (x ∷ xs) = negℤ x ∷ xs
-flip (suc j) (x ∷ xs) = x ∷ flip j xs
+use Rattle.rank1.proofs.RuleLaws.{Reduces}
+use Rattle.rank1.proofs.SymmetryLaws.{moved, component-below, none-lower}
 
 -- the length stays
 pub length-flip : (j : ℕ) (xs : List ℤ) → length (flip j xs) ≡ length xs
@@ -55,7 +52,7 @@ pub flip-inj : (j : ℕ) (s t : List ℤ) → flip j s ≡ flip j t → s ≡ t
 flip-inj j s t e = sym (flip-flip j s) ∙ ap (flip j) e ∙ flip-flip j t
 
 -- the size of a number stays
-size-neg : (x : ℤ) → natAbs (negℤ x) ≡ natAbs x
+pub size-neg : (x : ℤ) → natAbs (negℤ x) ≡ natAbs x
 size-neg (pos zero) = refl
 size-neg (pos (suc a)) = refl
 size-neg (negsuc a) = refl
@@ -97,22 +94,21 @@ flip-admissible ks n z j = moved 2 ks n z (flip j z) (flip j) pairs (λ s t p. (
     equal : (s : List ℤ) → residueAt n z (flip j s) ≡ residueAt n (flip j z) s
     equal s = ap (residue n) (dot-flip j s z)
 
--- what a law of the search asks of a rule: that it passes to z with the other sign at component j
-abbrev pub Flips : ℕ → Rule → Type 0
-Flips j rule = (n : ℕ) (z : List ℤ) → rule n z → rule n (flip j z)
-
+-- so does plan A, at every component
 pub plan-a-flips : (ks : List (List ℤ)) (j : ℕ) → Flips j (Admissible 2 ks)
-plan-a-flips ks j n z = flip-admissible ks n z j
+plan-a-flips ks j n z l = flip-admissible ks n z j
 
--- ---- the first vector
+-- ---- the first vector below a bound
 -- above half of n, the residue of -c is less than c
 residue-lower : (n c : ℕ) → c < n → n < 2 * c → residue n (negℤ (pos c)) < c
 residue-lower n zero l g = absurd (omega arith)
 residue-lower n (suc b) l g = omega (arith, mod-eq-of-lt {n = b} {m = n} (omega arith))
 
 -- where the rule does not see the sign of a component of z, that of the first vector is not above half of n
-pub flip-first : (rule : Rule) (d n : ℕ) (z : List ℕ) (j : ℕ) → Reduces rule → Flips j rule → j < d → 0 < n → First rule d n z → 2 * getD z j 0 ≤ n
-flip-first rule d n z j passes flips l h f = go (decLe (2 * getD z j 0) n)
+pub flip-first :
+    (rule : Rule) (d n b : ℕ) (z : List ℕ) (j : ℕ) → Reduces rule → Flips j rule → j < d → 0 < n → b ≤ n
+    → FirstBelow rule d n b z → 2 * getD z j 0 ≤ n
+flip-first rule d n b z j passes flips l h u f = go (decLe (2 * getD z j 0) n)
   where
     c : ℕ
     c = getD z j 0
@@ -120,12 +116,14 @@ flip-first rule d n z j passes flips l h f = go (decLe (2 * getD z j 0) n)
     there : getD (flip j (map pos z)) j (pos 0) ≡ negℤ (pos c)
     there = flip-at j (map pos z) ∙ ap negℤ (List·getD-map pos z j 0)
 
-    before : (a : ℕ) → a < j → getD (flip j (map pos z)) a (pos 0) ≡ pos (getD z a 0)
-    before a k = flip-other j a (map pos z) (λ e. omega arith) ∙ List·getD-map pos z a 0
+    other : (a : ℕ) → a ≢ j → getD (flip j (map pos z)) a (pos 0) ≡ pos (getD z a 0)
+    other a p = flip-other j a (map pos z) p ∙ List·getD-map pos z a 0
 
     go : Dec (2 * getD z j 0 ≤ n) → 2 * getD z j 0 ≤ n
     go (yes r) = r
     go (no r) =
-        absurd (none-lower rule passes d n z h f (flip j (map pos z)) (length-flip j (map pos z) ∙ length-map z pos ∙ f .ranged .size)
-        (flips n (map pos z) (f .admissible)) j l before
-        (subst (λ (x : ℤ). residue n x < c) (sym there) (residue-lower n c (f .ranged .below j l) (omega arith))))
+        absurd (none-lower rule d n b z passes h u f (flip j (map pos z)) (length-flip j (map pos z) ∙ length-map z pos ∙ f .ranged .size)
+        (flips n (map pos z) h (f .admissible)) j l
+        (λ a k. other a (λ e. omega arith))
+        (subst (λ (x : ℤ). residue n x < c) (sym there) (residue-lower n c (omega (arith, f .ranged .below j l)) (omega arith)))
+        (λ a m k. component-below n b d z a (getD (flip j (map pos z)) a (pos 0)) u k (f .ranged) (other a (λ e. omega arith))))

@@ -30,4 +30,4 @@ pub mod RefusalTrials
 pub mod SymmetryLaws
 pub mod SwapLaws
 pub mod FlipLaws
-pub mod GroupLaws
+pub mod DifferenceLaws

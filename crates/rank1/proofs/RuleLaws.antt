@@ -1,29 +1,21 @@
 -- The five rules are one rule: certain pairs of rows must have different residues. So whatever keeps equal residues equal
 -- keeps every rule: a part of the list, the residues of z in its place, a multiple of z by a u that has an inverse, and any
--- change of the axes on which all rows are 0.
+-- change of the axes on which all rows are 0. So a vector fails where the rows that end early fail with its beginning (`prune-whole`).
 use mathlib.Core.Path.{_≡_, refl, sym, _∙_, ap, subst}
 use mathlib.Core.Logic.{_↔_, _≢_}
-use mathlib.Core.List.{List, [], _∷_, map, List·Memᴰ}
+use mathlib.Core.List.{List, [], map, List·Memᴰ}
 use Prim.Native.Nat.{ℕ, zero, suc, _%_, _<_}
 use native.Mathlib.Nat.{zero-mod}
-use native.Mathlib.Omega.{arith}
-use lib.IntN.{ℤ, pos, natAbs, _+ℤ_, _*ℤ_, zero-*ℤ, +ℤ-idl}
-use lib.ListN.{length, getD, take}
-use Rattle.rank1.specs.Residue.{residue, dot, residueAt}
-use Rattle.rank1.proofs.DotLaws.{reduced, scaled, dot-reduced, scaled-equal}
-use Rattle.rank1.specs.Index.{zeroRow, mirrors, mirrored}
+use lib.IntN.{ℤ, pos, natAbs, _*ℤ_}
+use lib.ListN.{getD, take, List·getD-map}
+use lib.Seq.{getD-take}
+use Rattle.rank1.specs.Residue.{residue, residueAt}
+use Rattle.rank1.proofs.DotLaws.{reduced, scaled, dot-reduced, scaled-equal, AgreeWhole, dot-agrees}
+use Rattle.rank1.specs.Index.{mirrors, mirrored}
 use Rattle.rank1.proofs.MirrorLaws.{abs-zero, sizes-at, mirror-sizes, mirror-self, mirrored-in, mirrored-out}
 use Rattle.rank1.specs.Rule.{Integrates, Reconstructs, PlanA, PlanB, PlanC, Rule, Admissible}
 use Rattle.rank1.specs.Axes.{ZeroFrom}
-
--- ---- the pairs of rows that a plan keeps apart; the empty row stands for residue 0; a plan above 4 asks what cannot be
-abbrev pub Apart : ℕ → List (List ℤ) → List ℤ → List ℤ → Type 0
-Apart zero ks s t = List·Memᴰ s ks × (s ≢ zeroRow (length s)) × (t ≡ [])
-Apart (suc zero) ks s t = List·Memᴰ s ks × List·Memᴰ t ks × (s ≢ t)
-Apart (suc (suc zero)) ks s t = List·Memᴰ s (mirrored ks) × List·Memᴰ t (mirrored ks) × (s ≢ t)
-Apart (suc (suc (suc zero))) ks s t = (k : List ℤ) × List·Memᴰ t ks × List·Memᴰ k ks × List·Memᴰ s (mirrors k) × (s ≢ t)
-Apart (suc (suc (suc (suc zero)))) ks s t = (k : List ℤ) × List·Memᴰ t ks × List·Memᴰ k ks × (t ≢ k) × List·Memᴰ s (mirrors k)
-Apart (suc (suc (suc (suc (suc p))))) ks s t = (s ≡ []) × (t ≡ [])
+use Rattle.rank1.specs.Differences.{Apart}
 
 module _ (ks : List (List ℤ)) (n : ℕ) (z : List ℤ) where
   -- every pair that the plan keeps apart has different residues
@@ -114,36 +106,30 @@ apart-rows Q plan ks all none s t = go plan
     go (suc (suc (suc (suc (suc q))))) p = (subst Q (sym (p .0)) none, subst Q (sym (p .1)) none)
 
 -- ---- rows that are 0 from an axis on: what z has from there on does not count
+-- so are their mirrors
 pub mirror-zero : (j : ℕ) (k s : List ℤ) → ZeroFrom j k → List·Memᴰ s (mirrors k) → ZeroFrom j s
 mirror-zero j k s f m i l = abs-zero (getD s i (pos 0)) (sizes-at s k (mirror-sizes k s m) i ∙ ap natAbs (f i l))
 
--- 0 from the start on: nothing is left of the sum
-dot-nothing : (h z : List ℤ) → ZeroFrom 0 h → dot h z ≡ pos 0
-dot-nothing [] z f = refl
-dot-nothing (x ∷ h) [] f = refl
-dot-nothing (x ∷ h) (y ∷ z) f =
-    ap (λ (a : ℤ). a *ℤ y +ℤ dot h z) (f 0 (omega arith))
-    ∙ ap (λ (a : ℤ). a +ℤ dot h z) (zero-*ℤ y)
-    ∙ +ℤ-idl (dot h z)
-    ∙ dot-nothing h z (λ i l. f (suc i) (omega arith))
-
-dot-take : (j : ℕ) (h : List ℤ) (z : List ℕ) → ZeroFrom j h → dot h (map pos (take j z)) ≡ dot h (map pos z)
-dot-take zero h z f = dot-nothing h [] f ∙ sym (dot-nothing h (map pos z) f)
-dot-take (suc j) h [] f = refl
-dot-take (suc j) [] (a ∷ z) f = refl
-dot-take (suc j) (x ∷ h) (a ∷ z) f = ap (λ (k : ℤ). x *ℤ pos a +ℤ k) (dot-take j h z (λ i l. f (suc i) (omega arith)))
-
--- where every row is 0 from axis j on, only the first j components of z matter
-pub prefix : (plan : ℕ) (ks : List (List ℤ)) (n j : ℕ) (z : List ℕ) → ((k : List ℤ) → List·Memᴰ k ks → ZeroFrom j k) → Admissible plan ks n (map pos (take j z)) ↔ Admissible plan ks n (map pos z)
-prefix plan ks n j z f =
-    same-residues plan ks n (map pos (take j z)) (map pos z)
-    (apart-rows (λ s. residueAt n (map pos (take j z)) s ≡ residueAt n (map pos z) s) plan ks
-    (λ k s m i. ap (residue n) (dot-take j s z (mirror-zero j k s (f k m) i)))
+-- where every row is 0 from axis j on, only the first j components of the vector matter
+pub prefix :
+    (plan : ℕ) (ks : List (List ℤ)) (n j : ℕ) (y z : List ℤ) → ((k : List ℤ) → List·Memᴰ k ks → ZeroFrom j k) → AgreeWhole j y z
+    → Admissible plan ks n y ↔ Admissible plan ks n z
+prefix plan ks n j y z f g =
+    same-residues plan ks n y z
+    (apart-rows (λ s. residueAt n y s ≡ residueAt n z s) plan ks
+    (λ k s m i. ap (residue n) (dot-agrees j s y z (mirror-zero j k s (f k m) i) g))
     refl)
 
--- what a search may prune by: where the rows that are 0 from axis j on fail with the first j components, no vector that begins so is admissible
-pub prune : (plan : ℕ) (ks ks′ : List (List ℤ)) (n j : ℕ) (z : List ℕ) → Within ks′ ks → ((k : List ℤ) → List·Memᴰ k ks′ → ZeroFrom j k) → (Admissible plan ks′ n (map pos (take j z)) → ⊥) → Admissible plan ks n (map pos z) → ⊥
-prune plan ks ks′ n j z w f h r = h (prefix plan ks′ n j z f .1 (part plan ks ks′ n (map pos z) w r))
+-- what a search may prune by: where the rows that are 0 from axis j on fail with the first j components of z, no vector of whole
+-- numbers that begins so is admissible
+pub prune-whole :
+    (plan : ℕ) (ks ks′ : List (List ℤ)) (n j : ℕ) (y : List ℤ) (z : List ℕ)
+    → Within ks′ ks → ((k : List ℤ) → List·Memᴰ k ks′ → ZeroFrom j k) → ((i : ℕ) → i < j → getD y i (pos 0) ≡ pos (getD z i 0))
+    → (Admissible plan ks′ n (map pos (take j z)) → ⊥) → Admissible plan ks n y → ⊥
+prune-whole plan ks ks′ n j y z w f begins h r = h (prefix plan ks′ n j y (map pos (take j z)) f same .0 (part plan ks ks′ n y w r))
+  where
+    same : AgreeWhole j y (map pos (take j z))
+    same i l = begins i l ∙ ap pos (sym (getD-take j z i 0 l)) ∙ sym (List·getD-map pos (take j z) i 0)
 
 -- ---- what the laws of the search ask of a rule: that it passes to the residues of z
 abbrev pub Reduces : Rule → Type 0

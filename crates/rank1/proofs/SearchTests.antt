@@ -120,7 +120,7 @@ module _ {rule : Rule} (tested : Tested rule) (d : ℕ) where
   first-holds n z t =
       let u = both (eqb (badVector d n z) 0) (passes n z && every (later n z) (vectors n d)) t in
       let v = both (passes n z) (every (later n z) (vectors n d)) (u .1) in
-      first-of rule d n z
+      first-of rule d n n z
       (valid-vector d n z .0 (eqb→eq (badVector d n z) 0 (u .0)))
       (tested .decides n z .0 (v .0))
       (λ y r a b. T-not (passes n y && precedes y z) (every-at (later n z) (vectors n d) (v .1) y (vectors-in n d y r))

@@ -1,10 +1,11 @@
 -- Two axes exchanged. Where the list stays itself when axes i < j change places, a vector with its components i and j
--- exchanged is admissible with it; so in the first vector component i is at most component j. And a test for such axes.
+-- exchanged is admissible with it (`swap-admissible`); so in the first vector, whatever the bound of its components, component i is
+-- at most component j (`swap-first`).
 use mathlib.Core.Path.{_≡_, refl, sym, _∙_, ap, ap₂, subst}
 use mathlib.Core.Logic.{_≢_}
 use mathlib.Core.List.{List, [], _∷_, map, List·Memᴰ}
 use Prim.Native.Nat.{ℕ, zero, suc, _<_, _≤_}
-use native.Mathlib.Nat.{suc-inj, mod-eq-of-lt}
+use native.Mathlib.Nat.{suc-inj}
 use native.Mathlib.Decide.{ℕ-discrete, decLe}
 use native.Mathlib.Omega.{arith}
 use lib.IntN.{ℤ, pos, natAbs, _+ℤ_, _*ℤ_, +ℤ-assoc, +ℤ-comm}
@@ -13,11 +14,11 @@ use lib.Seq.{getD-set-same, getD-set-other, set-set, set-getD, ext-getD}
 use Rattle.rank1.specs.Residue.{residue, dot}
 use Rattle.rank1.specs.Index.{zeroRow}
 use Rattle.rank1.specs.Rule.{Rule, Admissible}
-use Rattle.rank1.specs.Search.{First}
+use Rattle.rank1.specs.Search.{FirstBelow}
 use Rattle.rank1.specs.Axes.{swap, Interchangeable}
 use Rattle.rank1.proofs.RuleLaws.{Reduces}
 use Rattle.rank1.proofs.MirrorLaws.{same-length, mirror-sizes}
-use Rattle.rank1.proofs.SymmetryLaws.{Symmetry, symmetric, none-lower}
+use Rattle.rank1.proofs.SymmetryLaws.{Symmetry, symmetric, own-residue, component-below, none-lower}
 
 -- ---- components i and j exchanged
 module _ {A : Type 0} where
@@ -170,8 +171,7 @@ dot-swap zero (suc j) (a ∷ h) (b ∷ z) e = dot-front j a b h z (suc-inj e)
 dot-swap (suc i) zero (a ∷ h) (b ∷ z) e = dot-front i a b h z (suc-inj e)
 dot-swap (suc i) (suc j) (a ∷ h) (b ∷ z) e = ap (λ (k : ℤ). a *ℤ b +ℤ k) (dot-swap i j h z (suc-inj e))
 
--- ---- interchangeable axes
--- ---- the rule
+-- ---- interchangeable axes: the rule
 -- such an exchange is a symmetry of the list
 pub swap-symmetry : (i j : ℕ) (ks : List (List ℤ)) → Interchangeable i j ks → Symmetry ks (swap i j)
 swap-symmetry i j ks closed = record {
@@ -193,25 +193,44 @@ swap-admissible plan d ks n z i j long closed e =
 abbrev pub Exchanges : ℕ → ℕ → ℕ → Rule → Type 0
 Exchanges i j d rule = (n : ℕ) (z : List ℤ) → length z ≡ d → rule n z → rule n (swap i j z)
 
+-- so do the rules of the plans, where the list stays itself
 pub plan-exchanges : (plan d : ℕ) (ks : List (List ℤ)) (i j : ℕ) → ((k : List ℤ) → List·Memᴰ k ks → length k ≡ d) → Interchangeable i j ks → Exchanges i j d (Admissible plan ks)
 plan-exchanges plan d ks i j long closed n z = swap-admissible plan d ks n z i j long closed
 
--- ---- in the first vector the components of such axes rise
-pub swap-first : (rule : Rule) (d n : ℕ) (z : List ℕ) (i j : ℕ) → Reduces rule → Exchanges i j d rule → i < j → j < d → 0 < n → First rule d n z → getD z i 0 ≤ getD z j 0
-swap-first rule d n z i j passes exchanges l h g f = go (decLe (getD z i 0) (getD z j 0))
+-- ---- in the first vector below a bound the components of such axes rise
+pub swap-first :
+    (rule : Rule) (d n b : ℕ) (z : List ℕ) (i j : ℕ) → Reduces rule → Exchanges i j d rule → i < j → j < d → 0 < n → b ≤ n
+    → FirstBelow rule d n b z → getD z i 0 ≤ getD z j 0
+swap-first rule d n b z i j passes exchanges l h g u f = go (decLe (getD z i 0) (getD z j 0))
   where
     size : length (map pos z) ≡ d
     size = length-map z pos ∙ f .ranged .size
 
-    there : getD (swap i j (map pos z)) i (pos 0) ≡ pos (getD z j 0)
-    there = swap-left i j (map pos z) (pos 0) (omega (arith, size)) (omega (arith, size)) ∙ List·getD-map pos z j 0
+    -- the components of the exchanged vector
+    left : getD (swap i j (map pos z)) i (pos 0) ≡ pos (getD z j 0)
+    left = swap-left i j (map pos z) (pos 0) (omega (arith, size)) (omega (arith, size)) ∙ List·getD-map pos z j 0
 
-    before : (a : ℕ) → a < i → getD (swap i j (map pos z)) a (pos 0) ≡ pos (getD z a 0)
-    before a k = swap-other i j a (map pos z) (pos 0) (λ e. omega arith) (λ e. omega arith) ∙ List·getD-map pos z a 0
+    right : getD (swap i j (map pos z)) j (pos 0) ≡ pos (getD z i 0)
+    right = swap-right i j (map pos z) (pos 0) (omega (arith, size)) (omega (arith, size)) ∙ List·getD-map pos z i 0
+
+    other : (a : ℕ) → a ≢ i → a ≢ j → getD (swap i j (map pos z)) a (pos 0) ≡ pos (getD z a 0)
+    other a p q = swap-other i j a (map pos z) (pos 0) p q ∙ List·getD-map pos z a 0
+
+    -- they are components of z, so behind i they are below b
+    behind : (a : ℕ) → i < a → a < d → residue n (getD (swap i j (map pos z)) a (pos 0)) < b
+    behind a m k = cases (ℕ-discrete a j)
+      where
+        cases : Dec (a ≡ j) → residue n (getD (swap i j (map pos z)) a (pos 0)) < b
+        cases (yes p) =
+            component-below n b d z i (getD (swap i j (map pos z)) a (pos 0)) u (omega arith) (f .ranged)
+            (ap (λ (c : ℕ). getD (swap i j (map pos z)) c (pos 0)) p ∙ right)
+        cases (no p) = component-below n b d z a (getD (swap i j (map pos z)) a (pos 0)) u k (f .ranged) (other a (λ e. omega arith) p)
 
     go : Dec (getD z i 0 ≤ getD z j 0) → getD z i 0 ≤ getD z j 0
     go (yes r) = r
     go (no r) =
-        absurd (none-lower rule passes d n z g f (swap i j (map pos z)) (length-swap i j (map pos z) ∙ size)
-        (exchanges n (map pos z) size (f .admissible)) i (omega arith) before
-        (subst (λ (c : ℕ). c < getD z i 0) (sym (ap (residue n) there ∙ mod-eq-of-lt (f .ranged .below j h))) (omega arith)))
+        absurd (none-lower rule d n b z passes g u f (swap i j (map pos z)) (length-swap i j (map pos z) ∙ size)
+        (exchanges n (map pos z) size (f .admissible)) i (omega arith)
+        (λ a k. other a (λ e. omega arith) (λ e. omega arith))
+        (subst (λ (c : ℕ). c < getD z i 0) (sym (ap (residue n) left ∙ own-residue n b d z j u h (f .ranged))) (omega arith))
+        behind)

@@ -1,10 +1,10 @@
 -- Rows moved by a function that keeps the list, its zero row and its mirrors: the pairs of rows that a plan keeps apart go to
--- such pairs. So a vector with which each row has the residue that the moved row has with z is admissible with z; and if z is
--- the first vector, that one does not come before it.
+-- such pairs. So a vector with which each row has the residue that the moved row has with z is admissible with z (`symmetric`); and
+-- if z is the first vector below a bound, that one does not come before it (`none-lower`).
 use mathlib.Core.Path.{_≡_, sym, _∙_, ap, subst}
-use mathlib.Core.Logic.{inl, inr}
+use mathlib.Core.Logic.{inl, inr, ⊎-elim}
 use mathlib.Core.List.{List, [], _∷_, map, map-map, List·Memᴰ}
-use Prim.Native.Nat.{ℕ, zero, suc, _<_}
+use Prim.Native.Nat.{ℕ, zero, suc, _<_, _≤_}
 use native.Mathlib.Nat.{mod-eq-of-lt}
 use native.Mathlib.Omega.{arith}
 use lib.IntN.{ℤ, pos}
@@ -12,9 +12,11 @@ use lib.ListN.{length, getD}
 use Rattle.rank1.specs.Residue.{residue, residueAt}
 use Rattle.rank1.specs.Index.{zeroRow, mirrors, mirrored}
 use Rattle.rank1.specs.Rule.{Rule, Admissible}
-use Rattle.rank1.specs.Search.{Before, First}
+use Rattle.rank1.specs.Search.{Before, InRange, FirstBelow}
+use Rattle.rank1.specs.Differences.{Apart}
+use Rattle.rank1.proofs.Order.{compared}
 use Rattle.rank1.proofs.MirrorLaws.{sizes, mirror-sizes, sizes-mirror, mirrored-in, mirrored-out}
-use Rattle.rank1.proofs.RuleLaws.{Apart, one-rule, apart-rows, Reduces}
+use Rattle.rank1.proofs.RuleLaws.{one-rule, apart-rows, Reduces}
 use Rattle.rank1.proofs.SearchLaws.{residues-ranged, none-before}
 
 -- a function of rows that keeps the list, and tells rows, zero rows and mirrors from others
@@ -61,7 +63,7 @@ symmetric plan ks n z z′ f y equal =
     moved plan ks n z z′ f (apart-moved ks f y plan)
     (apart-rows (λ s. residueAt n z (f s) ≡ residueAt n z′ s) plan ks equal (ap (residueAt n z) (y .empty)))
 
--- ---- the first vector
+-- ---- the first vector below a bound
 -- residues that are the components of z before an axis, and less there, come before z
 lower-before : (n : ℕ) (y : List ℤ) (z : List ℕ) (i : ℕ) → length y ≡ length z → i < length z → ((a : ℕ) → a < i → residue n (getD y a (pos 0)) ≡ getD z a 0) → residue n (getD y i (pos 0)) < getD z i 0 → Before (map (residue n) y) z
 unfolding Before
@@ -72,11 +74,29 @@ lower-before n (x ∷ y) (b ∷ z) zero e l f g = inl g
 lower-before n (x ∷ y) (b ∷ z) (suc i) e l f g =
     inr (f 0 (omega arith), lower-before n y z i (omega arith) (omega arith) (λ a h. f (suc a) (omega arith)) g)
 
--- no admissible vector of whole numbers has the components of the first one before an axis and a lower residue there
-pub none-lower : (rule : Rule) → Reduces rule → (d n : ℕ) (z : List ℕ) → 0 < n → First rule d n z → (y : List ℤ) → length y ≡ d → rule n y → (i : ℕ) → i < d → ((a : ℕ) → a < i → getD y a (pos 0) ≡ pos (getD z a 0)) → residue n (getD y i (pos 0)) < getD z i 0 → ⊥
-none-lower rule passes d n z h f y e r i l before lower =
-    none-before rule d n z f (map (residue n) y) (residues-ranged n d y h e)
+-- a component of a vector below b is its own residue
+pub own-residue : (n b d : ℕ) (z : List ℕ) (a : ℕ) → b ≤ n → a < d → InRange b d z → residue n (pos (getD z a 0)) ≡ getD z a 0
+own-residue n b d z a u l r = mod-eq-of-lt (omega (arith, r .below a l))
+
+-- so a number that is such a component has a residue below b
+pub component-below : (n b d : ℕ) (z : List ℕ) (a : ℕ) (x : ℤ) → b ≤ n → a < d → InRange b d z → x ≡ pos (getD z a 0) → residue n x < b
+component-below n b d z a x u l r e = subst (λ (c : ℕ). c < b) (sym (ap (residue n) e ∙ own-residue n b d z a u l r)) (r .below a l)
+
+-- no admissible vector of whole numbers has the components of the first one below b before an axis, a lower residue there, and
+-- residues below b behind it
+pub none-lower :
+    (rule : Rule) (d n b : ℕ) (z : List ℕ) → Reduces rule → 0 < n → b ≤ n → FirstBelow rule d n b z
+    → (y : List ℤ) → length y ≡ d → rule n y → (i : ℕ) → i < d → ((a : ℕ) → a < i → getD y a (pos 0) ≡ pos (getD z a 0))
+    → residue n (getD y i (pos 0)) < getD z i 0 → ((a : ℕ) → i < a → a < d → residue n (getD y a (pos 0)) < b) → ⊥
+none-lower rule d n b z passes h u f y e r i l before lower behind =
+    none-before rule d n b z f (map (residue n) y) (residues-ranged n b d y e below)
     (subst (rule n) (sym (map-map pos (residue n) y)) (passes n y h r))
     (lower-before n y z i (e ∙ sym (f .ranged .size)) (omega (arith, f .ranged .size))
-    (λ a k. ap (residue n) (before a k) ∙ mod-eq-of-lt (f .ranged .below a (omega arith)))
+    (λ a k. ap (residue n) (before a k) ∙ own-residue n b d z a u (omega arith) (f .ranged))
     lower)
+  where
+    below : (a : ℕ) → a < d → residue n (getD y a (pos 0)) < b
+    below a k =
+        ⊎-elim (λ m. component-below n b d z a (getD y a (pos 0)) u k (f .ranged) (before a m))
+        (⊎-elim (λ m. subst (λ (c : ℕ). residue n (getD y c (pos 0)) < b) (sym m) (omega (arith, lower, f .ranged .below i l))) (λ m. behind a m k))
+        (compared a i)

@@ -139,10 +139,6 @@ row-refl (x ∷ s) = joined (sameNumber x x) (sameRow s s) (number-refl x) (row-
 pub decides-row : (s t : List ℤ) → T (sameRow s t) ↔ (s ≡ t)
 decides-row s t = (row-yes s t, λ e. subst (λ (r : List ℤ). T (sameRow s r)) e (row-refl s))
 
--- in equations
-pub row-true : (s t : List ℤ) → (sameRow s t ≡ true) ↔ (s ≡ t)
-row-true s t = decided-true (sameRow s t) (decides-row s t)
-
 pub row-false : (s t : List ℤ) → (sameRow s t ≡ false) ↔ (s ≢ t)
 row-false s t = decided-false (sameRow s t) (decides-row s t)
 

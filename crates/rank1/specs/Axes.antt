@@ -2,19 +2,12 @@
 use mathlib.Core.Path.{_≡_}
 use mathlib.Core.List.{List, [], _∷_, List·Memᴰ}
 use Prim.Native.Nat.{ℕ, zero, suc, _<_, _≤_}
-use lib.IntN.{ℤ, pos}
-use lib.ListN.{length, getD, set}
-use Rattle.rank1.specs.Index.{zeroRow}
+use lib.IntN.{ℤ, pos, negℤ}
+use lib.ListN.{getD, set}
 
 -- every component from axis j on is 0
 abbrev pub ZeroFrom : ℕ → List ℤ → Type 0
 ZeroFrom j k = (i : ℕ) → j ≤ i → getD k i (pos 0) ≡ pos 0
-
--- the first j components of a row, then zeros
-abbrev pub zeroAfter : ℕ → List ℤ → List ℤ
-zeroAfter zero k = zeroRow (length k)
-zeroAfter (suc j) [] = []
-zeroAfter (suc j) (x ∷ k) = x ∷ zeroAfter j k
 
 -- two vectors have the same components below k
 abbrev pub Agree : ℕ → List ℕ → List ℕ → Type 0
@@ -32,3 +25,9 @@ module _ {A : Type 0} where
 -- the list stays itself when axes i and j change places
 abbrev pub Interchangeable : ℕ → ℕ → List (List ℤ) → Type 0
 Interchangeable i j ks = (k : List ℤ) → List·Memᴰ k ks → List·Memᴰ (swap i j k) ks
+
+-- the other sign at component j
+abbrev pub flip : ℕ → List ℤ → List ℤ
+flip j [] = []
+flip zero (x ∷ xs) = negℤ x ∷ xs
+flip (suc j) (x ∷ xs) = x ∷ flip j xs

@@ -1,5 +1,5 @@
 -- What a reader has to believe: the terms of document 01, a file for each of its sections, in its order; Tests has what they compute
--- with. Valid and Axes are cited by private functions alone. The laws of these definitions stand in proofs/.
+-- with. Valid, Axes and Differences are cited by private functions alone. The laws of these definitions stand in proofs/.
 pub mod Tests
 pub mod Residue
 pub mod Index
@@ -11,3 +11,4 @@ pub mod Points
 pub mod Refusal
 pub mod Valid
 pub mod Axes
+pub mod Differences

@@ -24,11 +24,15 @@ module _ (rule : Rule) (d : ℕ) where
   unfoldable pub Hopeless : ℕ → Type 0
   Hopeless n = (z : List ℤ) → length z ≡ d → rule n z → ⊥
 
-  -- z is the first admissible vector at n: every other one with components from 0 to n - 1 comes after it
-  pub record First (n : ℕ) (z : List ℕ) : Type 0 where
-    pub ranged : InRange n d z
+  -- z is the first admissible vector at n with components below b: every other such one comes after it
+  pub record FirstBelow (n b : ℕ) (z : List ℕ) : Type 0 where
+    pub ranged : InRange b d z
     pub admissible : rule n (map pos z)
-    pub others-after : (y : List ℕ) → InRange n d y → rule n (map pos y) → y ≢ z → Before z y
+    pub others-after : (y : List ℕ) → InRange b d y → rule n (map pos y) → y ≢ z → Before z y
+
+  -- z is the first admissible vector at n: every other one with components from 0 to n - 1 comes after it
+  abbrev pub First : ℕ → List ℕ → Type 0
+  First n = FirstBelow n n
 
   -- n, z is the smallest plan up to the ceiling: every smaller modulus is hopeless
   pub record Smallest (ceiling n : ℕ) (z : List ℕ) : Type 0 where

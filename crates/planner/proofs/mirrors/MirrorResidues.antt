@@ -28,6 +28,7 @@ use Rattle.rank1.proofs.ResidueLaws.{residue-add, residue-lt}
 use Rattle.rank1.proofs.MirrorLaws.{mirrors-length}
 use Rattle.rank1.proofs.IndexLaws.{part-length, row-in}
 use Rattle.rank1.proofs.SumLaws.{nonzeros-le}
+use Rattle.planner.specs.Sizes.{mostMirrors, largestSize, places}
 use Rattle.planner.specs.Inner.{place, RowReady, Ready}
 use Rattle.planner.proofs.products.ProductLaws.{small-fits, read-back, prepared-row}
 
@@ -46,11 +47,11 @@ abs-neg (pos (suc a)) = refl
 abs-neg (negsuc a) = refl
 
 -- the sign turned: 0 - x, which fits
-module _ (x : ℤ) (h : natAbs x ≤ 255) where
+module _ (x : ℤ) (h : natAbs x ≤ largestSize) where
   minus : pos 0 -ℤ toZ w16 (ofZ w16 x) ≡ negℤ x
   minus = ap (λ (y : ℤ). pos 0 -ℤ y) (read-back x h) ∙ +ℤ-idl (negℤ x)
 
-  neg-small : natAbs (negℤ x) ≤ 255
+  neg-small : natAbs (negℤ x) ≤ largestSize
   neg-small = omega (arith, abs-neg x)
 
   pub minus-fits : SFits w16 (pos 0 -ℤ toZ w16 (ofZ w16 x))
@@ -59,7 +60,7 @@ module _ (x : ℤ) (h : natAbs x ≤ 255) where
   pub minus-is : toZ w16 (ofZ w16 (pos 0 -ℤ toZ w16 (ofZ w16 x))) ≡ negℤ x
   minus-is = toZ-ofZ minus-fits ∙ minus
 
-  pub minus-small : natAbs (toZ w16 (ofZ w16 (pos 0 -ℤ toZ w16 (ofZ w16 x)))) ≤ 255
+  pub minus-small : natAbs (toZ w16 (ofZ w16 (pos 0 -ℤ toZ w16 (ofZ w16 x)))) ≤ largestSize
   minus-small = omega (arith, ap natAbs minus-is, neg-small)
 
 -- ---- how many components are not 0, by bits
@@ -264,10 +265,10 @@ module _ (f : ℕ → ℕ) (old : List ℕ) (count : ℕ) (room : count + count 
             ∙ sym (map-append f (take t old) (getD old t 0 ∷ []))
             ∙ ap (map f) (sym (take-suc old t 0 (omega arith)) ∙ ap (λ (i : ℕ). take i old) (sym (add-one t)))
 
--- ---- the turns of the code: the count residues from axis j on stand at the front of a slice of 64 numbers
+-- ---- the turns of the code: the count residues from axis j on stand at the front of a slice
 pub record Doubling (n : ℕ) (z : List ℕ) (k : List ℤ) (out : List ℕ) (count j : ℕ) : Type 0 where
   pub inside : j ≤ length z
-  pub room : length out ≡ 64
+  pub room : length out ≡ mostMirrors
   pub residues : take count out ≡ from n (map pos z) k j
   pub number : count ≡ length (mirrors (drop j k))
 
@@ -282,7 +283,7 @@ getD-map-in f (x ∷ l) (suc i) a b h = getD-map-in f l i a b (omega arith)
 
 module _ {n : ℕ} {z : List ℕ} {k : List ℤ} {table : List ℕ} (ready : RowReady n z k table) where
   -- at z's length: the row's own residue
-  pub doubling-start : (out : List ℕ) (r : ℕ) → length out ≡ 64 → r ≡ residueAt n (map pos z) k → Doubling n z k (set out 0 r) 1 (length z)
+  pub doubling-start : (out : List ℕ) (r : ℕ) → length out ≡ mostMirrors → r ≡ residueAt n (map pos z) k → Doubling n z k (set out 0 r) 1 (length z)
   doubling-start out r l e = record {
     inside = omega arith;
     room = length-set out 0 r ∙ l;
@@ -298,7 +299,7 @@ module _ {n : ℕ} {z : List ℕ} {k : List ℤ} {table : List ℕ} (ready : Row
     inner = omega (arith, s .inside, ready .short)
 
     -- there is room for as many again
-    pub doubling-half : count + count ≤ 64
+    pub doubling-half : count + count ≤ mostMirrors
     doubling-half = omega (arith, s .number, mirrors-few (drop (suc j) k) 5 (omega (arith, length-drop (suc j) k, ready .few-axes)))
 
     -- the entries are residues
@@ -355,7 +356,7 @@ module _ {n : ℕ} {z : List ℕ} {k : List ℤ} {table : List ℕ} (ready : Row
             ∙ from-length n (map pos z) k j
 
     -- the product of the component with its sign turned stands in the table
-    pub turned-product : getD table (j * 512 + place (negℤ (getD k j (pos 0)))) 0 ≡ residue n (negℤ (getD k j (pos 0)) *ℤ pos (getD z j 0))
+    pub turned-product : getD table (j * places + place (negℤ (getD k j (pos 0)))) 0 ≡ residue n (negℤ (getD k j (pos 0)) *ℤ pos (getD z j 0))
     turned-product =
         ready .prepared .products .entry j (negℤ (getD k j (pos 0))) (omega (arith, s .inside))
         (omega (arith, abs-neg (getD k j (pos 0)), ready .prepared .covers .covered j))

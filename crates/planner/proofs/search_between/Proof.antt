@@ -20,7 +20,7 @@ first-plan-requires c κs =
     let s = start .args in
     let refused = c .before .before .search-refusal in
     let v = between-valid (s .plan) (s .d) (s .rows .now) (s .low) (s .high) (s .z .now) (refused .result) (refused .ensures) (c .before .if1 .left) in
-    (v .plans, v .list, start .pre (v .modulus .low), v .modulus .high, v .room)
+    record { plans = v .plans; list = v .list; some = start .pre (v .modulus .low); few = v .modulus .high; places-for-z = v .room }
 
 same-length : tie.Need-same-length
 same-length c = search needs

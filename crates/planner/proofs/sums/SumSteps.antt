@@ -30,6 +30,7 @@ use Rattle.rank1.proofs.WholeSums.{abs-add, mag-abs, abs-in32, in32-mag}
 use Rattle.rank1.proofs.SumLaws.{under-length, copies-some, copies-le, row-small, sum-take, sum-part-small, map-length, map-residue, map-copies}
 use Rattle.rank1.specs.Tests.{every}
 use Rattle.rank1.proofs.TestLaws.{true-every}
+use Rattle.planner.specs.Sizes.{axes, mostMirrors}
 use Rattle.planner.specs.Inner.{occurrences, Addable, divides, EntryOf}
 use Rattle.planner.proofs.Writing.{write-more}
 use Rattle.planner.proofs.sums.SignedSteps.{short}
@@ -138,7 +139,7 @@ module _ (plan n : ℕ) (z : List ℕ) (k : List ℤ) where
         ap (occurrences x) is ∙ count-map (λ r. eqb r x) (residueAt n (map pos z)) (mirrorsUnder plan k)
 
     -- the first residue and how often it occurs are the entry of the row
-    pub entry-is : (x c : ℕ) → 0 < n → length k ≤ 6 → 0 < length (mirrorsUnder plan k) → x ≡ getD rs 0 0 → c ≡ occurrences x rs → EntryOf plan n z k x c
+    pub entry-is : (x c : ℕ) → 0 < n → length k ≤ axes → 0 < length (mirrorsUnder plan k) → x ≡ getD rs 0 0 → c ≡ occurrences x rs → EntryOf plan n z k x c
     entry-is x c p h l e q = record {
       is-residue = residue;
       inside = omega (arith, residue, residue-lt n (dot k (map pos z)) p);
@@ -154,13 +155,13 @@ module _ (plan n : ℕ) (z : List ℕ) (k : List ℤ) where
         counted = q ∙ occurrences-are x ∙ ap (λ (y : ℕ). copiesAt plan n (map pos z) y k) residue
 
     -- a term of 32 bits can be added at each to sums of 511 rows
-    pub addable : 0 < n → length k ≤ 6 → (a : ℤ) → natAbs a ≤ 2147483648 → (sums : List ℤ) → length sums ≡ n → ((r : ℕ) → natAbs (getD sums r (pos 0)) ≤ 511 * (64 * 2147483648)) → Addable a rs sums
+    pub addable : 0 < n → length k ≤ axes → (a : ℤ) → natAbs a ≤ 2147483648 → (sums : List ℤ) → length sums ≡ n → ((r : ℕ) → natAbs (getD sums r (pos 0)) ≤ 511 * (mostMirrors * 2147483648)) → Addable a rs sums
     addable p h a b sums e small = record {
       inside = λ t l. omega (arith, residues-at t l, residue-lt n (dot (getD (mirrorsUnder plan k) t []) (map pos z)) p);
       fits = λ r. omega (
         arith,
         small r,
-        mul-le-mul {n₁ = length rs} {m₁ = natAbs a} {n₂ = 64} {m₂ = 2147483648} (omega (arith, residues-length, under-length plan k h)) b,
+        mul-le-mul {n₁ = length rs} {m₁ = natAbs a} {n₂ = mostMirrors} {m₂ = 2147483648} (omega (arith, residues-length, under-length plan k h)) b,
       );
     }
 
@@ -186,7 +187,7 @@ module _ (plan n : ℕ) (z : List ℤ) (ks : List (List ℤ)) (terms : List ℤ)
       ∙ ap (λ (j : ℕ). sumAt plan n z (take j ks) (take j terms) r) (sym (add-one i))
 
   -- the sums of the first i rows are small where their terms have 32 bits
-  pub sums-small : i ≤ length ks → i ≤ length terms → ((k : List ℤ) → List·Memᴰ k ks → length k ≤ 6) → ((j : ℕ) → j < i → in32 (getD terms j (pos 0)) ≡ true) → (r : ℕ) → natAbs (sumAt plan n z (take i ks) (take i terms) r) ≤ i * (64 * 2147483648)
+  pub sums-small : i ≤ length ks → i ≤ length terms → ((k : List ℤ) → List·Memᴰ k ks → length k ≤ axes) → ((j : ℕ) → j < i → in32 (getD terms j (pos 0)) ≡ true) → (r : ℕ) → natAbs (sumAt plan n z (take i ks) (take i terms) r) ≤ i * (mostMirrors * 2147483648)
   sums-small l m f g r =
       rw (take-take i i terms (le-refl i))
       at (sum-part-small plan n z ks (take i terms) i r 2147483648 l f

@@ -1,4 +1,4 @@
--- `mirrors::mirror_count`: at most 6 bits are set, so the shift is exact, and it is the number of mirrors (`mirrors-length`).
+-- `mirrors::mirror_count`: at most a bit for each axis is set, so the shift is exact, and it is the number of mirrors (`mirrors-length`).
 use mathlib.Core.Path.{sym, _∙_, ap}
 use Prim.Native.Nat.{ℕ, _^_, _≤_}
 use native.Mathlib.Nat.{one-mul, le-trans}
@@ -8,14 +8,15 @@ use lib.Count.{ones, ones-le}
 use lib.Dec.{lit<}
 use lib.Pow.{shl-exact, pow-mono, pow-pos}
 use Rattle.rank1.proofs.MirrorLaws.{mirrors-length}
+use Rattle.planner.specs.Sizes.{axes}
 use Rattle.planner.proofs.mirrors.mirror_count.Statement.{statement}
 use Rattle.planner.proofs.mirrors.mirror_count.Tie as tie
 
 nonzero-mask-requires : tie.Need-nonzero-mask-requires
 nonzero-mask-requires c κs = search needs
 
--- the mask has at most 6 bits
-few : (c : tie.After-nonzero-mask) → ones (c .nonzero-mask .result) ≤ 6
+-- the mask has at most a bit for each axis
+few : (c : tie.After-nonzero-mask) → ones (c .nonzero-mask .result) ≤ axes
 few c = le-trans (ones-le _ (c .nonzero-mask .result) (c .nonzero-mask .ensures .1)) (c .before .pre)
 
 cast-result : tie.Need-cast-result

@@ -8,6 +8,7 @@ use lib.IntN.{ℤ, pos, negℤ, _*ℤ_, natAbs}
 use lib.ListN.{length, getD}
 use Rattle.rank1.specs.Residue.{residue}
 use Rattle.rank1.proofs.ResidueLaws.{residue-lt}
+use Rattle.planner.specs.Sizes.{axes, largestSize, places}
 use Rattle.planner.specs.Inner.{place, RowReady}
 use Rattle.planner.proofs.products.ProductLaws.{component-small}
 use Rattle.planner.proofs.mirrors.MirrorResidues.{bits-zero, bits-other, minus-fits, minus-is, minus-small, Doubling, doubling-start, doubling-half, doubling-below, doubling-zero, doubling-other, doubling-end, turned-product}
@@ -44,10 +45,10 @@ component c = getD (entry c .args .row .now) (axis c) (pos 0)
 abbrev ready : (c : tie.In-loop Inv-loop μ-loop) → RowReady (entry c .args .n) (entry c .args .z .now) (entry c .args .row .now) (entry c .args .products .now)
 ready c = entry c .pre .0
 
-few : (c : tie.In-loop Inv-loop μ-loop) → (axis c < 6) × (axis c < length (entry c .args .row .now))
+few : (c : tie.In-loop Inv-loop μ-loop) → (axis c < axes) × (axis c < length (entry c .args .row .now))
 few c = omega (arith, c .loop-test .taken, c .before .loop .inv .inside, ready c .short, ready c .few-axes)
 
-small : (c : tie.In-loop Inv-loop μ-loop) → natAbs (component c) ≤ 255
+small : (c : tie.In-loop Inv-loop μ-loop) → natAbs (component c) ≤ largestSize
 small c = component-small (entry c .args .n) (entry c .args .z .now) (entry c .args .row .now) (entry c .args .products .now) (ready c .prepared) (axis c)
 
 turn : (c : tie.In-loop Inv-loop μ-loop) → Doubling (entry c .args .n) (entry c .args .z .now) (entry c .args .row .now) (c .before .loop .out) (c .before .loop .count) (suc (axis c))
@@ -89,10 +90,10 @@ shared-slice-read-p c =
 -- what is read is the residue of the product with the sign turned
 product : (c : tie.After-place-of Inv-loop μ-loop) →
     let i = c .before .before .before in
-    getD (entry i .args .products .now) (axis i * 512 + c .place-of .result) 0 ≡ residue (entry i .args .n) (negℤ (component i) *ℤ pos (getD (entry i .args .z .now) (axis i) 0))
+    getD (entry i .args .products .now) (axis i * places + c .place-of .result) 0 ≡ residue (entry i .args .n) (negℤ (component i) *ℤ pos (getD (entry i .args .z .now) (axis i) 0))
 product c =
     let i = c .before .before .before in
-    ap (λ (p : ℕ). getD (entry i .args .products .now) (axis i * 512 + p) 0)
+    ap (λ (p : ℕ). getD (entry i .args .products .now) (axis i * places + p) 0)
     (c .place-of .ensures .0 ∙ ap place (minus-is (component i) (small i)))
     ∙ turned-product (ready i) (turn i)
 
@@ -125,7 +126,7 @@ loop-again c =
     let p = r .before .before .before .before in
     let i = p .before .before .before in
     doubling-other (ready i) (turn i) (r .reflect .last .0)
-    (getD (entry i .args .products .now) (axis i * 512 + p .place-of .result) 0)
+    (getD (entry i .args .products .now) (axis i * places + p .place-of .result) 0)
     (r .before .sum-of .result)
     (bits-other (component i) (p .before .if1 .taken))
     (r .reflect .kept .0)

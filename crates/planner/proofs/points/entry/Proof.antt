@@ -5,6 +5,7 @@ use native.Mathlib.Nat.{mod-lt, mul-le-mul}
 use native.Mathlib.Omega.{arith}
 use Rattle.rank1.specs.Points.{coordinate}
 use borrow.Author.Needs.{needs}
+use Rattle.planner.specs.Sizes.{largestModulus}
 use Rattle.planner.proofs.points.entry.Statement.{statement}
 use Rattle.planner.proofs.points.entry.Tie as tie
 
@@ -16,7 +17,7 @@ wide32-requires-2 c κs = search needs
 
 mul-r : tie.Need-mul-r
 mul-r c =
-    omega (arith, mul-le-mul {n₁ = c .before .wide32 .result} {m₁ = c .wide322 .result} {n₂ = 8192} {m₂ = 8192} (omega arith) (omega arith))
+    omega (arith, mul-le-mul {n₁ = c .before .wide32 .result} {m₁ = c .wide322 .result} {n₂ = largestModulus} {m₂ = largestModulus} (omega arith) (omega arith))
 
 wide32-requires-3 : tie.Need-wide32-requires-3
 wide32-requires-3 c κs = search needs

@@ -5,6 +5,7 @@ use mathlib.Core.Logic.{⊎-elim}
 use native.Mathlib.Omega.{arith}
 use lib.IntN.{pos, natAbs}
 use lib.ListN.{length, getD}
+use Rattle.planner.specs.Sizes.{largestSize}
 use Rattle.planner.proofs.products.ProductLaws.{read-back, covered-all, covered-more}
 use borrow.Author.Needs.{needs}
 use Rattle.planner.proofs.products.largest.Statement.{statement}
@@ -12,7 +13,7 @@ use Rattle.planner.proofs.products.largest.Tie as tie
 
 abbrev Inv-loop : tie.InvT-loop
 Inv-loop rows top₀ i₀ i-end top i =
-    (i ≤ length rows) × (top ≤ 255) × ((k : ℕ) → k < i → natAbs (getD rows k (pos 0)) ≤ top)
+    (i ≤ length rows) × (top ≤ largestSize) × ((k : ℕ) → k < i → natAbs (getD rows k (pos 0)) ≤ top)
 
 abbrev μ-loop : tie.MeasureT-loop
 μ-loop rows top₀ i₀ i-end top i = length rows - i
@@ -43,7 +44,7 @@ loop-again c =
     let l = c .before .before .before .before in
     let i = l .loop .i in
     let x = l .before .args .rows .now in
-    let small : natAbs (getD x i (pos 0)) ≤ 255 = l .before .pre .covered i in
+    let small : natAbs (getD x i (pos 0)) ≤ largestSize = l .before .pre .covered i in
     let size : c .before .size-of .result ≡ natAbs (getD x i (pos 0)) =
     c .before .size-of .ensures ∙ ap natAbs (read-back (getD x i (pos 0)) small)
     in

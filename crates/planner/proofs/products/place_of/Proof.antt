@@ -1,18 +1,22 @@
--- `products::place_of`: x + 255 is the place of x, and not below 0 (`place-is`).
+-- `products::place_of`: x + MIDDLE is the place of x, and not below 0 (`place-is`).
 use mathlib.Core.Path.{refl}
 use native.Mathlib.Omega.{arith}
 use mir.Facts.{toZ-ofZ}
 use Rattle.planner.proofs.products.ProductLaws.{read-back, place-is, place-lt, place-fits}
+use borrow.Author.Needs.{needs}
 use Rattle.planner.proofs.products.place_of.Statement.{statement}
 use Rattle.planner.proofs.products.place_of.Tie as tie
+
+cast-result : tie.Need-cast-result
+cast-result c = search needs
 
 add-result : tie.Need-add-result
 add-result c =
     let x = c .args .x in
     rw (read-back x (c .pre), place-is x (c .pre)) (record { sfits = omega (arith, place-lt x (c .pre)) })
 
-cast-result : tie.Need-cast-result
-cast-result c =
+cast-result-2 : tie.Need-cast-result-2
+cast-result-2 c =
     let x = c .args .x in
     rw (read-back x (c .pre), place-is x (c .pre), toZ-ofZ (place-fits x (c .pre)))
     (tt, record { fits = omega (arith, place-lt x (c .pre)) })
@@ -23,4 +27,4 @@ returns c =
     rw (read-back x (c .pre), place-is x (c .pre), toZ-ofZ (place-fits x (c .pre))) (refl, place-lt x (c .pre))
 
 pub place-of-spec : {M : Type 1} → statement M
-place-of-spec = tie.close (tie.spec add-result cast-result returns)
+place-of-spec = tie.close (tie.spec cast-result add-result cast-result-2 returns)

@@ -8,6 +8,7 @@ use native.Mathlib.Omega.{arith}
 use lib.IntN.{pos}
 use lib.ListN.{length, getD, drop}
 use Rattle.rank1.specs.Residue.{residue, dot}
+use Rattle.planner.specs.Sizes.{places, largestModulus}
 use Rattle.planner.specs.Inner.{place}
 use Rattle.planner.proofs.products.ProductLaws.{read-back, component-small, entry-is, entry-lt, entry-in, row-started, row-turn, row-finished}
 use borrow.Author.Needs.{needs}
@@ -20,7 +21,7 @@ use Rattle.planner.proofs.widths.wide32.Reads as wide32-reads
 
 abbrev Inv-loop : tie.InvT-loop
 Inv-loop row z n products sum₀ j₀ j-end sum j =
-    (j ≤ length z) × (sum ≤ j * 8192) × ((sum + residue n (dot (drop j row) (map pos (drop j z)))) % n ≡ residue n (dot row (map pos z)))
+    (j ≤ length z) × (sum ≤ j * largestModulus) × ((sum + residue n (dot (drop j row) (map pos (drop j z)))) % n ≡ residue n (dot row (map pos z)))
 
 abbrev μ-loop : tie.MeasureT-loop
 μ-loop row z n products sum₀ j₀ j-end sum j = length z - j
@@ -34,11 +35,11 @@ placed c =
     c .place-of .ensures .0 ∙ ap place (read-back (getD (a .row .now) (l .loop .j) (pos 0)) small)
 
 -- the entry there
-entry : (c : lts.After-wide32 (place-of-reads.Asked, place-of-reads.Learnt, wide32-reads.Asked, wide32-reads.Learnt) reads.Pre reads.Post Inv-loop μ-loop) → c .wide32 .result ≡ getD (c .before .before .before .before .before .before .before .before .args .products .now) (c .before .before .before .before .before .loop .j * 512 + place (getD (c .before .before .before .before .before .before .before .before .args .row .now) (c .before .before .before .before .before .loop .j) (pos 0))) 0
+entry : (c : lts.After-wide32 (place-of-reads.Asked, place-of-reads.Learnt, wide32-reads.Asked, wide32-reads.Learnt) reads.Pre reads.Post Inv-loop μ-loop) → c .wide32 .result ≡ getD (c .before .before .before .before .before .before .before .before .args .products .now) (c .before .before .before .before .before .loop .j * places + place (getD (c .before .before .before .before .before .before .before .before .args .row .now) (c .before .before .before .before .before .loop .j) (pos 0))) 0
 entry c =
     let l = c .before .before .before .before .before in
     let a = l .before .before .before .args in
-    c .wide32 .ensures ∙ ap (λ (k : ℕ). getD (a .products .now) (l .loop .j * 512 + k) 0) (placed (c .before .before))
+    c .wide32 .ensures ∙ ap (λ (k : ℕ). getD (a .products .now) (l .loop .j * places + k) 0) (placed (c .before .before))
 
 -- which is below n
 entry-small : (c : lts.After-wide32 (place-of-reads.Asked, place-of-reads.Learnt, wide32-reads.Asked, wide32-reads.Learnt) reads.Pre reads.Post Inv-loop μ-loop) → c .wide32 .result < c .before .before .before .before .before .before .before .before .args .n

@@ -4,6 +4,7 @@ use mathlib.Core.Path.{_≡_, _∙_}
 use Prim.Native.Nat.{_+_, _-_, _*_, _%_, _<_, _≤_, zero-le}
 use native.Mathlib.Omega.{arith}
 use lib.ListN.{set, length-set}
+use Rattle.planner.specs.Sizes.{places, middle}
 use Rattle.planner.proofs.products.ProductLaws.{Setting, set-none, set-more, set-all, next-multiple, first-multiple}
 use borrow.Author.Needs.{needs}
 use Rattle.planner.proofs.products.set_axis.Statement.{statement}
@@ -27,7 +28,7 @@ add-middle : tie.Need-add-middle Inv-loop μ-loop
 add-middle c = search needs
 
 -- a turn's stores, at its end
-turned : (c : lts.After-sum-of (negative-reads.Asked, negative-reads.Learnt, sum-of-reads.Asked, sum-of-reads.Learnt) reads.Pre reads.Post Inv-loop μ-loop) → Setting (c .before .before .before .before .before .args .n) (c .before .before .before .before .before .args .v) (c .before .before .before .before .before .args .axis) (c .before .before .before .loop .x + 1) (c .before .before .before .before .before .args .products .now) (set (set (c .before .before .before .loop .products) (c .before .before .before .before .before .args .axis * 512 + 255 + c .before .before .before .loop .x) (c .before .before .before .loop .p)) (c .before .before .before .before .before .args .axis * 512 + 255 - c .before .before .before .loop .x) (c .before .negative .result))
+turned : (c : lts.After-sum-of (negative-reads.Asked, negative-reads.Learnt, sum-of-reads.Asked, sum-of-reads.Learnt) reads.Pre reads.Post Inv-loop μ-loop) → Setting (c .before .before .before .before .before .args .n) (c .before .before .before .before .before .args .v) (c .before .before .before .before .before .args .axis) (c .before .before .before .loop .x + 1) (c .before .before .before .before .before .args .products .now) (set (set (c .before .before .before .loop .products) (c .before .before .before .before .before .args .axis * places + middle + c .before .before .before .loop .x) (c .before .before .before .loop .p)) (c .before .before .before .before .before .args .axis * places + middle - c .before .before .before .loop .x) (c .before .negative .result))
 turned c =
     let l = c .before .before .before in
     let a = l .before .before .args in

@@ -9,6 +9,7 @@ use Rattle.rank1.specs.Refusal.{badPlan, badAxes, pairConditions, badPlaces, po
 use Rattle.rank1.proofs.ValidLaws.{axes-clear, valid-pair}
 use Rattle.refusal.proofs.InputLaws.{stops, passes, ends, list-stops, list-passes}
 use borrow.Author.Needs.{needs}
+use Rattle.planner.specs.Sizes as sizes
 use Rattle.planner.proofs.refusals.point_refusal.Statement.{statement}
 use Rattle.planner.proofs.refusals.point_refusal.Tie as tie
 
@@ -59,7 +60,7 @@ mul-places-refusal c =
     let s = c .before .before .before .before .before .before .before .before .args in
     let axes = axes-clear (s .d) .0 (sym (c .before .before .before .before .axes-refusal .ensures) ∙ c .before .before .before .if2 .left) in
     let pair = valid-pair (s .d) (s .n) (s .z .now) (sym (c .before .before .pair-refusal .ensures) ∙ c .before .if3 .left) in
-    omega (arith, mul-le-mul {n₁ = c .line-count .result} {m₁ = s .d} {n₂ = 8192} {m₂ = 6} (omega (arith, c .line-count .ensures, pair .0 .high)) (axes .1))
+    omega (arith, mul-le-mul {n₁ = c .line-count .result} {m₁ = s .d} {n₂ = sizes.largestModulus} {m₂ = sizes.axes} (omega (arith, c .line-count .ensures, pair .0 .high)) (axes .1))
 
 places-refusal-requires : tie.Need-places-refusal-requires
 places-refusal-requires c κs = search needs

@@ -12,6 +12,7 @@ use lib.ListN.{length, length-set}
 use Rattle.rank1.specs.Index.{indexList}
 use Rattle.rank1.specs.Rule.{PlanA}
 use Rattle.rank1.proofs.IndexLaws.{row-inside}
+use Rattle.planner.specs.Sizes.{mostMirrors}
 use Rattle.planner.specs.Inner.{Clear}
 use Rattle.planner.proofs.rule.TakenLaws.{Untaken, Next, rowsLeft, mirrorsLeft, rows-start, row-begins, mirror-next, row-ends, rows-end, taken-more, taken-clash, taken-all}
 use Rattle.planner.proofs.mirrors.MirrorResidues.{row-ready}
@@ -29,7 +30,7 @@ abbrev μ-loop : tie.MeasureT-loop
 
 abbrev Inv-rows : tie.InvT-rows
 Inv-rows d rows n z products taken₀ residues₀ apart₀ i₀ i-end taken residues apart i =
-    (i ≤ i-end) × (apart ≡ true) × (length residues ≡ 64) × (length taken ≡ length taken₀)
+    (i ≤ i-end) × (apart ≡ true) × (length residues ≡ mostMirrors) × (length taken ≡ length taken₀)
     × (PlanA (indexList d rows) n (map pos z) ↔ Untaken taken (rowsLeft d rows n z i))
 
 abbrev μ-rows : tie.MeasureT-rows

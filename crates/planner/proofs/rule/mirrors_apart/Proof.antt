@@ -11,6 +11,7 @@ use lib.ListN.{length, getD}
 use Rattle.rank1.specs.Residue.{residueAt}
 use Rattle.rank1.specs.Index.{mirrors, indexList}
 use Rattle.rank1.proofs.IndexLaws.{row-inside}
+use Rattle.planner.specs.Sizes.{mostMirrors}
 use Rattle.planner.specs.Inner.{clash}
 use Rattle.planner.proofs.rule.OwnerLaws.{Unowned}
 use Rattle.planner.proofs.mirrors.MirrorResidues.{row-ready}
@@ -29,7 +30,7 @@ abbrev μ-loop : tie.MeasureT-loop
 abbrev Inv-rows : tie.InvT-rows
 Inv-rows plan d rows n z products owners residues₀ apart₀ i₀ i-end residues apart i =
     (i ≤ i-end)
-    × (length residues ≡ 64)
+    × (length residues ≡ mostMirrors)
     × (apart ≡ true)
     × ((j : ℕ) → j < i → MirrorsFree (indexList d rows) n (map pos z) plan j (length (mirrors (row (indexList d rows) n (map pos z) j))))
 

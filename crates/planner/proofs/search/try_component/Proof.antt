@@ -1,16 +1,29 @@
--- `planner::search::try_component` meets its contract. No first vector begins so where the value is ruled out
--- (ruled-out-fails), or where the rule fails on the rows that end there (fine-fails) or on a group there (groups_hold).
+-- `search::try_component`: no first vector begins so where v cannot lead (lead-passed) or the rule fails on the rows that end there
+-- (none-first); else the products of the next stage are set (prefixed-more).
+use mathlib.Core.Path.{refl}
 use mathlib.Core.Bool.{false≢true}
-use mathlib.Core.Path.{refl, _∙_}
+use mathlib.Core.List.{List}
+use Prim.Native.Nat.{ℕ, _+_}
 use native.Mathlib.Omega.{arith}
 use borrow.Author.Needs.{needs}
-use borrow.Author.Tests.{not-true, not-false}
-use lib.ListN.{length-set}
+use lib.ListN.{set}
 use lib.Seq.{getD-set-same}
-use Rattle.planner.proofs.search.SearchSteps.{stage-more, stage-owners, fine-fails}
-use Rattle.planner.proofs.search.SwapSteps.{ruled-out-fails}
+use Rattle.rank1.specs.Index.{indexList}
+use Rattle.rank1.specs.Rule.{Admissible}
+use Rattle.rank1.proofs.VectorLaws.{plan-scales}
+use Rattle.planner.specs.Inner.{AxisSet}
+use Rattle.planner.specs.Stage.{Prefixed}
+use Rattle.planner.proofs.search.PrefixLaws.{none-first}
+use Rattle.planner.proofs.search.ValueLaws.{lead-passed}
+use Rattle.planner.proofs.search.StageLaws.{prefixed-kept, prefixed-more}
 use Rattle.planner.proofs.search.try_component.Statement.{statement}
 use Rattle.planner.proofs.search.try_component.Tie as tie
+
+-- the next prefix, once the products of the axis are set
+next-prefix : (b : tie.Start) (p : List ℕ) → AxisSet (b .args .s .n) (b .args .v) (b .args .at) (b .args .s .top) (b .args .products .now) p → Prefixed (b .args .s) (b .args .at + 1) (set (b .args .z .now) (b .args .at) (b .args .v)) p (b .args .owners .now)
+next-prefix b p anew =
+    let a = b .args in
+    prefixed-more (a .s) (a .at) (a .v) (a .z .now) (b .pre .within) (a .products .now) p (a .owners .now) (b .pre .listed .covers .narrow) (b .pre .prefix) anew
 
 mul-z : tie.Need-mul-z
 mul-z c = search needs
@@ -18,43 +31,38 @@ mul-z c = search needs
 slice-write-z : tie.Need-slice-write-z
 slice-write-z c = search needs
 
-ruled-out-requires : tie.Need-ruled-out-requires
-ruled-out-requires c κs =
-    let start = c .before .before .before .before .before in (
-      omega (arith, start .pre .0 .levels .tall),
-      omega (arith, start .pre .0 .levels .few-axes, start .pre .1),
-      omega (arith, length-set (start .args .z .now) (start .args .at) (start .args .v), start .pre .0 .size, start .pre .1),
-      omega (arith, start .pre .0 .modulus, start .pre .1),
-    )
+cannot-lead-requires : tie.Need-cannot-lead-requires
+cannot-lead-requires c κs = tt
 
 same-length : tie.Need-same-length
 same-length c = search needs
 
 returns : tie.Need-returns
 returns c =
-    let start = c .before .before .before .before .before .before .before in
+    let b = c .before .before .before .before .before .before in
+    let a = b .args in
     record {
       stored = refl;
-      kept = λ i l. refl;
-      stage = λ e. absurd (false≢true e);
-      fine = λ e. absurd (false≢true e);
+      kept-products = λ i l. refl;
+      prefix = λ e. absurd (false≢true e);
       none = λ _.
-          ruled-out-fails (start .pre .0 .levels) (start .pre .0 .modulus .low) (start .pre .1 .0) _
-          (getD-set-same (start .args .z .now) (start .args .at) (start .args .v) 0 (omega (arith, start .pre)))
-          (c .before .ruled-out .ensures (c .if1 .taken));
+          lead-passed (Admissible (a .s .plan) (indexList (a .s .d) (a .rows .now))) (plan-scales (a .s .plan) (indexList (a .s .d) (a .rows .now))) (a .s) (a .at) (a .v)
+          (set (a .z .now) (a .at) (a .v)) (b .pre .prefix .modulus .low) (b .pre .listed .list .some-axes)
+          (c .before .cannot-lead .ensures (c .if1 .taken)) (getD-set-same (a .z .now) (a .at) (a .v) 0 (omega (arith, b .pre .prefix .size, b .pre .within)));
     }
 
 set-axis-requires : tie.Need-set-axis-requires
-set-axis-requires c κs = search needs
+set-axis-requires c κs =
+    let b = c .before .before .before .before .before .before .before in
+    (omega (arith, b .pre .within, b .pre .listed .list .few-axes), b .pre .prefix .entries .size, omega (arith, b .pre .less, b .pre .few-values), b .pre .prefix .modulus, b .pre .listed .covers .narrow)
 
-add-rule-at : tie.Need-add-rule-at
-add-rule-at c = search needs
+add-ends-hold : tie.Need-add-ends-hold
+add-ends-hold c = search needs
 
-rule-at-requires : tie.Need-rule-at-requires
-rule-at-requires c κs =
-    let call = c .before .before .before .before .before .set-axis in
-    let start = c .before .before .before .before .before .before .before .before .before .before .before .before .before .before in
-    stage-more (start .pre .0) (start .pre .1 .0) (start .pre .1 .1) (call .ensures)
+ends-hold-requires : tie.Need-ends-hold-requires
+ends-hold-requires c κs =
+    let b = c .before .before .before .before .before .before .before .before .before .before .before .before .before in
+    (b .pre .listed, next-prefix b (c .before .before .before .before .before .set-axis .last .0) (c .before .before .before .before .before .set-axis .ensures))
 
 same-length-2 : tie.Need-same-length-2
 same-length-2 c = search needs
@@ -67,49 +75,18 @@ same-length-4 c = search needs
 
 returns-2 : tie.Need-returns-2
 returns-2 c =
-    let rule = c .before .before .before .rule-at in
-    let call = c .before .before .before .before .before .before .before .before .before .set-axis in
-    let start = c .before .before .before .before .before .before .before .before .before .before .before .before .before .before .before .before .before .before in
+    let b = c .before .before .before .before .before .before .before .before .before .before .before .before .before .before .before .before in
+    let a = b .args in
+    let axis = c .before .before .before .before .before .before .before .before .set-axis in
+    let ends = c .before .before .ends-hold in
+    let z = set (a .z .now) (a .at) (a .v) in
     record {
       stored = refl;
-      kept = call .ensures .kept;
-      stage = λ e. absurd (false≢true e);
-      fine = λ e. absurd (false≢true e);
-      none = λ _. fine-fails (stage-more (start .pre .0) (start .pre .1 .0) (start .pre .1 .1) (call .ensures)) (rule .ensures .no (not-true _ (c .if2 .taken)));
-    }
-
-add-groups-hold : tie.Need-add-groups-hold
-add-groups-hold c = search needs
-
-groups-hold-requires : tie.Need-groups-hold-requires
-groups-hold-requires c κs =
-    let rule = c .before .before .before .before .before .before .rule-at in
-    let call = c .before .before .before .before .before .before .before .before .before .before .before .before .set-axis in
-    let start = c .before .before .before .before .before .before .before .before .before .before .before .before .before .before .before .before .before .before .before .before .before in
-    stage-owners _ _ _ _ _ _ _ (stage-more (start .pre .0) (start .pre .1 .0) (start .pre .1 .1) (call .ensures)) (rule .kept .1 .1 .1 .1 .1 .1 .1 .1 .1 .0)
-
-same-length-5 : tie.Need-same-length-5
-same-length-5 c = search needs
-
-same-length-6 : tie.Need-same-length-6
-same-length-6 c = search needs
-
-same-length-7 : tie.Need-same-length-7
-same-length-7 c = search needs
-
-returns-3 : tie.Need-returns-3
-returns-3 c =
-    let rule = c .before .before .before .before .before .before .before .before .before .rule-at in
-    let groups = c .before .before .groups-hold in
-    let call = c .before .before .before .before .before .before .before .before .before .before .before .before .before .before .before .set-axis in
-    let start = c .before .before .before .before .before .before .before .before .before .before .before .before .before .before .before .before .before .before .before .before .before .before .before .before in
-    let stage = stage-more (start .pre .0) (start .pre .1 .0) (start .pre .1 .1) (call .ensures) in
-    record {
-      stored = refl;
-      kept = call .ensures .kept;
-      stage = λ _. stage-owners _ _ _ _ _ _ _ stage (groups .kept .1 .1 .1 .1 .1 .1 .1 .1 .1 .0 ∙ rule .kept .1 .1 .1 .1 .1 .1 .1 .1 .1 .0);
-      fine = λ _. rule .ensures .yes (not-false _ (c .before .before .before .before .before .before .if2 .left));
-      none = groups .ensures;
+      kept-products = axis .ensures .kept;
+      prefix = λ _.
+          prefixed-kept (a .s) (a .at + 1) z (axis .last .0) (a .owners .now) z (axis .last .0) (ends .last .1 .1 .1 .1 .1 .1 .1 .0) (b .pre .listed .covers .narrow) refl (λ i l. refl) refl
+          (λ i l. refl) (ends .kept .1 .1 .1 .1 .1 .1 .1 .0) (next-prefix b (axis .last .0) (axis .ensures));
+      none = λ e. none-first (Admissible (a .s .plan) (indexList (a .s .d) (a .rows .now))) (a .s .d) (a .s .n) (a .s .values) (a .at + 1) z (ends .ensures e);
     }
 
 pub try-component-spec : {M : Type 1} → statement M
@@ -118,19 +95,13 @@ try-component-spec =
     (tie.spec
     mul-z
     slice-write-z
-    ruled-out-requires
+    cannot-lead-requires
     same-length
     returns
     set-axis-requires
-    add-rule-at
-    rule-at-requires
+    add-ends-hold
+    ends-hold-requires
     same-length-2
     same-length-3
     same-length-4
-    returns-2
-    add-groups-hold
-    groups-hold-requires
-    same-length-5
-    same-length-6
-    same-length-7
-    returns-3)
+    returns-2)

@@ -15,6 +15,7 @@ use Rattle.rank1.specs.Index.{rowCount, indexList}
 use Rattle.rank1.specs.Sums.{copiesAt, sumAt, in32}
 use Rattle.rank1.proofs.IndexLaws.{rows-length, member-length, row-inside}
 use Rattle.rank1.proofs.WholeSums.{mag-in32}
+use Rattle.planner.specs.Sizes.{mostMirrors}
 use Rattle.planner.specs.Inner.{occurrences, RowReady}
 use Rattle.planner.proofs.mirrors.MirrorResidues.{row-ready}
 use Rattle.planner.proofs.rule.RuleIndex.{row-number}
@@ -25,7 +26,7 @@ use Rattle.planner.proofs.sums.write_sums.Tie as tie
 
 abbrev Inv-loop : tie.InvT-loop
 Inv-loop plan d rows n z products terms sums₀ residues₀ i₀ i-end sums residues i =
-    (i ≤ length terms) × (length sums ≡ n) × (length residues ≡ 64) × ((j : ℕ) → j < i → in32 (getD terms j (pos 0)) ≡ true) × ((r : ℕ) → getD sums r (pos 0) ≡ sumAt plan n (map pos z) (take i (indexList d rows)) (take i terms) r)
+    (i ≤ length terms) × (length sums ≡ n) × (length residues ≡ mostMirrors) × ((j : ℕ) → j < i → in32 (getD terms j (pos 0)) ≡ true) × ((r : ℕ) → getD sums r (pos 0) ≡ sumAt plan n (map pos z) (take i (indexList d rows)) (take i terms) r)
 
 abbrev μ-loop : tie.MeasureT-loop
 μ-loop plan d rows n z products terms sums₀ residues₀ i₀ i-end sums residues i = length terms - i
@@ -57,7 +58,7 @@ narrow c =
     mag-in32 (getD (start at .args .terms .now) (at .loop .i) (pos 0)) (c .before .long-arg .given)
 
 -- the sums of the rows before it
-before-small : (c : tie.In-loop Inv-loop μ-loop) (r : ℕ) → natAbs (getD (c .before .loop .sums) r (pos 0)) ≤ 511 * (64 * 2147483648)
+before-small : (c : tie.In-loop Inv-loop μ-loop) (r : ℕ) → natAbs (getD (c .before .loop .sums) r (pos 0)) ≤ 511 * (mostMirrors * 2147483648)
 before-small c r =
     let s = start (c .before) in
     let a = s .args in

@@ -1,0 +1,2 @@
+-- Laws of axes that can change places.
+pub mod AxisLaws

@@ -1,0 +1,2 @@
+-- Laws of filling the table of differences.
+pub mod FillLaws

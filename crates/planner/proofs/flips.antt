@@ -1,0 +1,2 @@
+-- Laws of the axes whose sign change a table does not see.
+pub mod ClosedLaws

@@ -1,2 +1,0 @@
--- Laws of the groups.
-pub mod GroupSteps

@@ -1,0 +1,2 @@
+-- Laws of the levels of a list.
+pub mod LevelLaws

@@ -1,0 +1,2 @@
+-- Laws that the proofs of the moduli share.
+pub mod ModuliLaws

@@ -1,0 +1,149 @@
+-- `moduli::first_modulus`: the moduli from low to below n fail, and the tables serve the next (Ascending). Measure: the moduli left.
+use mathlib.Core.Path.{sym, _∙_}
+use Prim.Native.Nat.{suc, _-_}
+use native.Mathlib.Omega.{arith}
+use Rattle.planner.specs.Stage.{ListTables, listTables, ModulusTables, modulusTables, Work, work, ruleOf}
+use Rattle.planner.proofs.moduli.ModuliLaws.{Ascending, ascend-none, ascend-more, ascended, all-failed}
+use Rattle.planner.proofs.moduli.first_modulus.Statement.{statement}
+use Rattle.planner.proofs.moduli.first_modulus.Tie as tie
+
+abbrev Inv-loop : tie.InvT-loop
+Inv-loop task low high rows levels sizes swaps flips components bounds solutions₀ starts₀ steps₀ z₀ sums₀ products₀ struck₀ owners₀ n₀ solutions starts steps z sums products struck owners n =
+    Ascending (ruleOf (task .plan) (task .d) (listTables rows levels sizes swaps flips components bounds)) (task .d) low n (modulusTables solutions starts steps) (work z sums products struck owners)
+
+abbrev μ-loop : tie.MeasureT-loop
+μ-loop task low high rows levels sizes swaps flips components bounds solutions₀ starts₀ steps₀ z₀ sums₀ products₀ struck₀ owners₀ n₀ solutions starts steps z sums products struck owners n =
+    suc high - n
+
+-- the tables and the work at entry
+abbrev tablesOf : tie.Start Inv-loop μ-loop → ListTables
+tablesOf b = listTables (b .args .rows .now) (b .args .levels .now) (b .args .sizes .now) (b .args .swaps .now) (b .args .flips .now) (b .args .components .now) (b .args .bounds .now)
+
+abbrev modulusOf : tie.Start Inv-loop μ-loop → ModulusTables
+modulusOf b = modulusTables (b .args .solutions .now) (b .args .starts .now) (b .args .steps .now)
+
+abbrev workOf : tie.Start Inv-loop μ-loop → Work
+workOf b = work (b .args .z .now) (b .args .sums .now) (b .args .products .now) (b .args .struck .now) (b .args .owners .now)
+
+loop-holds : tie.Need-loop-holds Inv-loop μ-loop
+loop-holds c =
+    let b = c .before .before .before .before .before .before .before .before .before .before .before .before in
+    ascend-none (ruleOf (b .args .task .plan) (b .args .task .d) (tablesOf b)) (b .args .task .d) (b .args .low) (modulusOf b) (workOf b) (b .pre .1 .2)
+
+first-vector-requires : tie.Need-first-vector-requires Inv-loop μ-loop
+first-vector-requires c κs =
+    let b = c .before .before .before .before .before .before .before .before .before .before .before .before .before .before .before .before .before .before .before .before .before .before in
+    let inv = c .before .before .before .before .before .before .before .before .before .loop .inv in
+    (b .pre .0, (record { low = omega (arith, inv .from-low); high = omega (arith, c .before .before .before .before .before .before .before .before .loop-test .taken) }, inv .roomy))
+
+same-length : tie.Need-same-length Inv-loop μ-loop
+same-length c = c .before .before .before .before .before .before .before .before .before .before .before .before .before .before .before .before .before .first-vector .ensures .1 .solutions ∙ sym (c .before .before .before .before .before .before .before .before .before .before .before .before .before .before .before .before .before .before .before .before .before .before .before .before .before .before .before .before .before .before .before .before .before .before .before .before .before .before .before .before .pre .1 .2 .solutions)
+
+same-length-2 : tie.Need-same-length-2 Inv-loop μ-loop
+same-length-2 c = c .before .before .before .before .before .before .before .before .before .before .before .before .before .before .before .before .before .first-vector .ensures .1 .starts ∙ sym (c .before .before .before .before .before .before .before .before .before .before .before .before .before .before .before .before .before .before .before .before .before .before .before .before .before .before .before .before .before .before .before .before .before .before .before .before .before .before .before .before .pre .1 .2 .starts)
+
+same-length-3 : tie.Need-same-length-3 Inv-loop μ-loop
+same-length-3 c = c .before .before .before .before .before .before .before .before .before .before .before .before .before .before .before .before .before .first-vector .ensures .1 .steps ∙ sym (c .before .before .before .before .before .before .before .before .before .before .before .before .before .before .before .before .before .before .before .before .before .before .before .before .before .before .before .before .before .before .before .before .before .before .before .before .before .before .before .before .pre .1 .2 .steps)
+
+same-length-4 : tie.Need-same-length-4 Inv-loop μ-loop
+same-length-4 c = c .before .before .before .before .before .before .before .before .before .before .before .before .before .before .before .before .before .first-vector .ensures .1 .z ∙ sym (c .before .before .before .before .before .before .before .before .before .before .before .before .before .before .before .before .before .before .before .before .before .before .before .before .before .before .before .before .before .before .before .before .before .before .before .before .before .before .before .before .pre .1 .2 .z)
+
+same-length-5 : tie.Need-same-length-5 Inv-loop μ-loop
+same-length-5 c = c .before .before .before .before .before .before .before .before .before .before .before .before .before .before .before .before .before .first-vector .ensures .1 .sums ∙ sym (c .before .before .before .before .before .before .before .before .before .before .before .before .before .before .before .before .before .before .before .before .before .before .before .before .before .before .before .before .before .before .before .before .before .before .before .before .before .before .before .before .pre .1 .2 .sums)
+
+same-length-6 : tie.Need-same-length-6 Inv-loop μ-loop
+same-length-6 c = c .before .before .before .before .before .before .before .before .before .before .before .before .before .before .before .before .before .first-vector .ensures .1 .products ∙ sym (c .before .before .before .before .before .before .before .before .before .before .before .before .before .before .before .before .before .before .before .before .before .before .before .before .before .before .before .before .before .before .before .before .before .before .before .before .before .before .before .before .pre .1 .2 .products)
+
+same-length-7 : tie.Need-same-length-7 Inv-loop μ-loop
+same-length-7 c = c .before .before .before .before .before .before .before .before .before .before .before .before .before .before .before .before .before .first-vector .ensures .1 .struck ∙ sym (c .before .before .before .before .before .before .before .before .before .before .before .before .before .before .before .before .before .before .before .before .before .before .before .before .before .before .before .before .before .before .before .before .before .before .before .before .before .before .before .before .pre .1 .2 .struck)
+
+same-length-8 : tie.Need-same-length-8 Inv-loop μ-loop
+same-length-8 c = c .before .before .before .before .before .before .before .before .before .before .before .before .before .before .before .before .before .first-vector .ensures .1 .owners ∙ sym (c .before .before .before .before .before .before .before .before .before .before .before .before .before .before .before .before .before .before .before .before .before .before .before .before .before .before .before .before .before .before .before .before .before .before .before .before .before .before .before .before .pre .1 .2 .owners)
+
+returns : tie.Need-returns Inv-loop μ-loop
+returns c =
+    let b = c .before .before .before .before .before .before .before .before .before .before .before .before .before .before .before .before .before .before .before .before .before .before .before .before .before .before .before .before .before .before .before .before .before .before .before .before .before .before .before .before in
+    let l = c .before .before .before .before .before .before .before .before .before .before .before .before .before .before .before .before .before .before .before .before .before .before .before .before .before .before .before in
+    let call = c .before .before .before .before .before .before .before .before .before .before .before .before .before .before .before .before .before .first-vector in
+    ascended (ruleOf (b .args .task .plan) (b .args .task .d) (tablesOf b)) (b .args .task .d) (b .args .low) (l .loop .n) (b .args .high)
+    (modulusTables (l .loop .solutions) (l .loop .starts) (l .loop .steps)) (work (l .loop .z) (l .loop .sums) (l .loop .products) (l .loop .struck) (l .loop .owners))
+    (call .last .1 .1 .1 .1 .1 .1 .1 .1 .1 .1 .1 .1 .0) (l .loop .inv) (b .pre .1 .0) (c .before .before .before .before .before .before .before .before .before .before .before .before .before .before .before .before .before .before .before .before .before .before .before .before .before .before .loop-test .taken) (call .ensures .0 .found (c .if1 .taken))
+
+add-n : tie.Need-add-n Inv-loop μ-loop
+add-n c =
+    record { fits = omega (arith, c .before .before .before .before .before .before .before .before .before .before .before .before .before .before .before .before .before .before .before .before .before .before .before .before .before .before .loop-test .taken, c .before .before .before .before .before .before .before .before .before .before .before .before .before .before .before .before .before .before .before .before .before .before .before .before .before .before .before .before .before .before .before .before .before .before .before .before .before .before .before .before .pre .1 .1) }
+
+loop-less : tie.Need-loop-less Inv-loop μ-loop
+loop-less c = omega (arith, c .before .before .before .before .before .before .before .before .before .before .before .before .before .before .before .before .before .before .before .before .before .before .before .before .before .before .loop-test .taken)
+
+loop-again : tie.Need-loop-again Inv-loop μ-loop
+loop-again c =
+    let b = c .before .before .before .before .before .before .before .before .before .before .before .before .before .before .before .before .before .before .before .before .before .before .before .before .before .before .before .before .before .before .before .before .before .before .before .before .before .before .before .before in
+    let l = c .before .before .before .before .before .before .before .before .before .before .before .before .before .before .before .before .before .before .before .before .before .before .before .before .before .before .before in
+    let call = c .before .before .before .before .before .before .before .before .before .before .before .before .before .before .before .before .before .first-vector in
+    ascend-more (ruleOf (b .args .task .plan) (b .args .task .d) (tablesOf b)) (b .args .task .d) (b .args .low) (l .loop .n)
+    (modulusTables (l .loop .solutions) (l .loop .starts) (l .loop .steps)) (modulusTables (call .last .1 .1 .1 .1 .1 .1 .1 .1 .1 .0) (call .last .1 .1 .1 .1 .1 .1 .1 .1 .1 .1 .0) (call .last .1 .1 .1 .1 .1 .1 .1 .1 .1 .1 .1 .0))
+    (work (l .loop .z) (l .loop .sums) (l .loop .products) (l .loop .struck) (l .loop .owners)) (work (call .last .1 .1 .1 .1 .1 .1 .1 .1 .1 .1 .1 .1 .0) (call .last .1 .1 .1 .1 .1 .1 .1 .1 .1 .1 .1 .1 .1 .0) (call .last .1 .1 .1 .1 .1 .1 .1 .1 .1 .1 .1 .1 .1 .1 .0) (call .last .1 .1 .1 .1 .1 .1 .1 .1 .1 .1 .1 .1 .1 .1 .1 .0) (call .last .1 .1 .1 .1 .1 .1 .1 .1 .1 .1 .1 .1 .1 .1 .1 .1 .0))
+    (l .loop .inv) (call .ensures .1) (call .ensures .0 .none (c .if1 .left))
+
+same-length-9 : tie.Need-same-length-9 Inv-loop μ-loop
+same-length-9 c = c .before .loop .inv .roomy .solutions ∙ sym (c .before .before .before .before .before .before .before .before .before .before .before .before .before .before .pre .1 .2 .solutions)
+
+same-length-10 : tie.Need-same-length-10 Inv-loop μ-loop
+same-length-10 c = c .before .loop .inv .roomy .starts ∙ sym (c .before .before .before .before .before .before .before .before .before .before .before .before .before .before .pre .1 .2 .starts)
+
+same-length-11 : tie.Need-same-length-11 Inv-loop μ-loop
+same-length-11 c = c .before .loop .inv .roomy .steps ∙ sym (c .before .before .before .before .before .before .before .before .before .before .before .before .before .before .pre .1 .2 .steps)
+
+same-length-12 : tie.Need-same-length-12 Inv-loop μ-loop
+same-length-12 c = c .before .loop .inv .roomy .z ∙ sym (c .before .before .before .before .before .before .before .before .before .before .before .before .before .before .pre .1 .2 .z)
+
+same-length-13 : tie.Need-same-length-13 Inv-loop μ-loop
+same-length-13 c = c .before .loop .inv .roomy .sums ∙ sym (c .before .before .before .before .before .before .before .before .before .before .before .before .before .before .pre .1 .2 .sums)
+
+same-length-14 : tie.Need-same-length-14 Inv-loop μ-loop
+same-length-14 c = c .before .loop .inv .roomy .products ∙ sym (c .before .before .before .before .before .before .before .before .before .before .before .before .before .before .pre .1 .2 .products)
+
+same-length-15 : tie.Need-same-length-15 Inv-loop μ-loop
+same-length-15 c = c .before .loop .inv .roomy .struck ∙ sym (c .before .before .before .before .before .before .before .before .before .before .before .before .before .before .pre .1 .2 .struck)
+
+same-length-16 : tie.Need-same-length-16 Inv-loop μ-loop
+same-length-16 c = c .before .loop .inv .roomy .owners ∙ sym (c .before .before .before .before .before .before .before .before .before .before .before .before .before .before .pre .1 .2 .owners)
+
+returns-2 : tie.Need-returns-2 Inv-loop μ-loop
+returns-2 c =
+    let b = c .before .before .before .before .before .before .before .before .before .before .before .before .before .before in
+    let l = c .before in
+    all-failed (ruleOf (b .args .task .plan) (b .args .task .d) (tablesOf b)) (b .args .task .d) (b .args .low) (l .loop .n) (b .args .high)
+    (modulusTables (l .loop .solutions) (l .loop .starts) (l .loop .steps)) (work (l .loop .z) (l .loop .sums) (l .loop .products) (l .loop .struck) (l .loop .owners))
+    (l .loop .z) (l .loop .inv) (omega (arith, c .loop-test .left))
+
+pub first-modulus-spec : {M : Type 1} → statement M
+first-modulus-spec =
+    tie.close
+    (tie.spec
+    Inv-loop
+    μ-loop
+    loop-holds
+    first-vector-requires
+    same-length
+    same-length-2
+    same-length-3
+    same-length-4
+    same-length-5
+    same-length-6
+    same-length-7
+    same-length-8
+    returns
+    add-n
+    loop-less
+    loop-again
+    same-length-9
+    same-length-10
+    same-length-11
+    same-length-12
+    same-length-13
+    same-length-14
+    same-length-15
+    same-length-16
+    returns-2)

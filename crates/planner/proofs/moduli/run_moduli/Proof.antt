@@ -1,0 +1,81 @@
+-- `moduli::run_moduli`: the tables are made with their sizes, and zeros in the sums.
+use mathlib.Core.Path.{refl}
+use Prim.Native.Nat.{_*_}
+use borrow.Author.Needs.{needs}
+use Rattle.planner.specs.Sizes.{axes, room}
+use Rattle.planner.proofs.runs.ChainLaws.{blank}
+use Rattle.planner.proofs.moduli.run_moduli.Statement.{statement}
+use Rattle.planner.proofs.moduli.run_moduli.Tie as tie
+
+-- src/moduli.rt:184:9
+slice-aggregate-first-modulus : tie.Need-slice-aggregate-first-modulus
+slice-aggregate-first-modulus c = search needs
+
+-- src/moduli.rt:185:9
+slice-aggregate-first-modulus-2 : tie.Need-slice-aggregate-first-modulus-2
+slice-aggregate-first-modulus-2 c = search needs
+
+-- src/moduli.rt:186:9
+slice-aggregate-first-modulus-3 : tie.Need-slice-aggregate-first-modulus-3
+slice-aggregate-first-modulus-3 c = search needs
+
+-- src/moduli.rt:188:9
+slice-aggregate-first-modulus-4 : tie.Need-slice-aggregate-first-modulus-4
+slice-aggregate-first-modulus-4 c = search needs
+
+-- src/moduli.rt:189:9
+slice-aggregate-first-modulus-5 : tie.Need-slice-aggregate-first-modulus-5
+slice-aggregate-first-modulus-5 c = search needs
+
+-- src/moduli.rt:190:9
+slice-aggregate-first-modulus-6 : tie.Need-slice-aggregate-first-modulus-6
+slice-aggregate-first-modulus-6 c = search needs
+
+-- src/moduli.rt:191:9
+slice-aggregate-first-modulus-7 : tie.Need-slice-aggregate-first-modulus-7
+slice-aggregate-first-modulus-7 c = search needs
+
+-- src/moduli.rt:173:5
+first-modulus-requires : tie.Need-first-modulus-requires
+first-modulus-requires c κs =
+    let b = c .before .before .before .before .before .before .before .before .before .before .before .before .before in (
+      b .pre .0,
+      (
+        b .pre .1 .0,
+        b .pre .1 .1,
+        record {
+          solutions = refl;
+          starts = refl;
+          steps = refl;
+          z = b .pre .1 .2;
+          sums = refl;
+          zeros = λ e l. blank (axes * room) e;
+          products = refl;
+          struck = refl;
+          owners = refl;
+        },
+      ),
+    )
+
+-- src/moduli.rt:149:1
+same-length : tie.Need-same-length
+same-length c = search needs
+
+-- src/moduli.rt:149:1
+returns : tie.Need-returns
+returns c = search needs
+
+pub run-moduli-spec : {M : Type 1} → statement M
+run-moduli-spec =
+    tie.close
+    (tie.spec
+    slice-aggregate-first-modulus
+    slice-aggregate-first-modulus-2
+    slice-aggregate-first-modulus-3
+    slice-aggregate-first-modulus-4
+    slice-aggregate-first-modulus-5
+    slice-aggregate-first-modulus-6
+    slice-aggregate-first-modulus-7
+    first-modulus-requires
+    same-length
+    returns)

@@ -1,0 +1,276 @@
+// The moduli upward: at each one the tables of the modulus are set and the search is run. Moduli below the number of rows fail by
+// counting, so the tables of the list are made only where a modulus is left.
+
+use crate::Plan;
+use crate::axes::set_swaps;
+use crate::levels::set_levels;
+use crate::listing::set_differences;
+use crate::search::Search;
+use crate::search::complete;
+use crate::sieve::set_modulus;
+use crate::sizes::AXES;
+use crate::sizes::LARGEST_MODULUS;
+use crate::sizes::LASTS;
+use crate::sizes::LEVEL_ROOM;
+use crate::sizes::PRODUCT_ROOM;
+use crate::sizes::ROOM;
+use crate::sizes::SOLUTION_ROOM;
+use crate::widths::wide;
+ghost use mathlib.Core.Path.{_≡_};
+ghost use Prim.Native.Nat.{_≤_};
+ghost use lib.ListN.{length};
+ghost use Rattle.rank1.specs.Index.{indexList};
+ghost use Rattle.rank1.specs.Rule.{Admissible};
+ghost use Rattle.rank1.specs.Valid.{ValidModulus};
+ghost use Rattle.planner.specs.Sizes.{mostRows, largestModulus};
+ghost use Rattle.planner.specs.Stage.{listTables, modulusTables, work, ruleOf, Tabled, Roomy, Decided, Ascended, PlanBetween, StartOf, Searchable};
+
+// What the search of a list is about at every modulus: the plan, the number of axes, the largest size of a component of a row or of
+// a difference, the largest last component of a difference, and whether no difference was turned away.
+pub(crate) struct Task {
+    pub(crate) plan: u8,
+    pub(crate) d: usize,
+    pub(crate) top: usize,
+    pub(crate) tail: usize,
+    pub(crate) whole: bool,
+}
+
+// The first vector at n, or n fails with every vector. All n values are tried; rows that end early are left to the sieve where no
+// difference was turned away and every last component has its solutions.
+fn first_vector(
+    task: Task,
+    n: u16,
+    rows: &[i16],
+    levels: &[i16],
+    sizes: &[usize],
+    swaps: &[u8],
+    flips: &[u8],
+    components: &[i16],
+    bounds: &[u16],
+    solutions: &mut [u16],
+    starts: &mut [usize],
+    steps: &mut [u16],
+    z: &mut [u16],
+    sums: &mut [u16],
+    products: &mut [u16],
+    struck: &mut [u8],
+    owners: &mut [u16],
+) -> bool
+    requires { ⌜ Tabled (task .plan) (task .d) (task .top) (task .tail) (listTables (now rows) (now levels) (now sizes) (now swaps) (now flips) (now components) (now bounds)) ⌝ }
+    requires { ⌜ ValidModulus n × Roomy (task .d) (modulusTables (now solutions) (now starts) (now steps)) (work (now z) (now sums) (now products) (now struck) (now owners)) ⌝ }
+    ensures { λ r. ⌜ Decided (ruleOf (task .plan) (task .d) (listTables (now (rows .entry)) (now (levels .entry)) (now (sizes .entry)) (now (swaps .entry)) (now (flips .entry)) (now (components .entry)) (now (bounds .entry)))) (task .d) n (now (z .exit)) r ⌝ }
+    ensures { λ _. ⌜ Roomy (task .d) (modulusTables (now (solutions .exit)) (now (starts .exit)) (now (steps .exit))) (work (now (z .exit)) (now (sums .exit)) (now (products .exit)) (now (struck .exit)) (now (owners .exit))) ⌝ }
+{
+    let solved = set_modulus(n, task.d, task.tail, bounds, solutions, starts, steps);
+    let s = Search {
+        plan: task.plan,
+        d: task.d,
+        n,
+        values: n,
+        top: task.top,
+        tail: task.tail,
+        sieved: task.whole & solved,
+    };
+    complete(
+        s,
+        0,
+        rows,
+        levels,
+        sizes,
+        swaps,
+        flips,
+        components,
+        bounds,
+        solutions,
+        starts,
+        steps,
+        z,
+        sums,
+        products,
+        struck,
+        owners,
+    )
+}
+
+// Runs the moduli from low to high: the first that does not fail, with its first vector in z; 0 where all fail.
+fn first_modulus(
+    task: Task,
+    low: u16,
+    high: u16,
+    rows: &[i16],
+    levels: &[i16],
+    sizes: &[usize],
+    swaps: &[u8],
+    flips: &[u8],
+    components: &[i16],
+    bounds: &[u16],
+    solutions: &mut [u16],
+    starts: &mut [usize],
+    steps: &mut [u16],
+    z: &mut [u16],
+    sums: &mut [u16],
+    products: &mut [u16],
+    struck: &mut [u8],
+    owners: &mut [u16],
+) -> u16
+    requires { ⌜ Tabled (task .plan) (task .d) (task .top) (task .tail) (listTables (now rows) (now levels) (now sizes) (now swaps) (now flips) (now components) (now bounds)) ⌝ }
+    requires { ⌜ (1 ≤ low) × (high ≤ largestModulus) × Roomy (task .d) (modulusTables (now solutions) (now starts) (now steps)) (work (now z) (now sums) (now products) (now struck) (now owners)) ⌝ }
+    ensures { λ r. ⌜ Ascended (ruleOf (task .plan) (task .d) (listTables (now (rows .entry)) (now (levels .entry)) (now (sizes .entry)) (now (swaps .entry)) (now (flips .entry)) (now (components .entry)) (now (bounds .entry)))) (task .d) low high (now (z .exit)) r ⌝ }
+{
+    let mut n = low;
+    while n <= high {
+        if first_vector(
+            task,
+            n,
+            rows,
+            levels,
+            sizes,
+            swaps,
+            flips,
+            components,
+            bounds,
+            solutions,
+            starts,
+            steps,
+            z,
+            sums,
+            products,
+            struck,
+            owners,
+        ) {
+            return n;
+        }
+        n += 1;
+    }
+    0
+}
+
+// The same with tables of its own for the moduli and the work.
+fn run_moduli(
+    task: Task,
+    low: u16,
+    high: u16,
+    rows: &[i16],
+    levels: &[i16],
+    sizes: &[usize],
+    swaps: &[u8],
+    flips: &[u8],
+    components: &[i16],
+    bounds: &[u16],
+    z: &mut [u16],
+) -> u16
+    requires { ⌜ Tabled (task .plan) (task .d) (task .top) (task .tail) (listTables (now rows) (now levels) (now sizes) (now swaps) (now flips) (now components) (now bounds)) ⌝ }
+    requires { ⌜ (1 ≤ low) × (high ≤ largestModulus) × (length (now z) ≡ task .d) ⌝ }
+    ensures { λ r. ⌜ Ascended (ruleOf (task .plan) (task .d) (listTables (now (rows .entry)) (now (levels .entry)) (now (sizes .entry)) (now (swaps .entry)) (now (flips .entry)) (now (components .entry)) (now (bounds .entry)))) (task .d) low high (now (z .exit)) r ⌝ }
+{
+    let mut solutions = [0u16; SOLUTION_ROOM];
+    let mut starts = [0usize; LASTS];
+    let mut steps = [0u16; LASTS];
+    let mut sums = [0u16; AXES * ROOM];
+    let mut products = [0u16; PRODUCT_ROOM];
+    let mut struck = [0u8; AXES * LARGEST_MODULUS + 1];
+    let mut owners = [0u16; LARGEST_MODULUS];
+    first_modulus(
+        task,
+        low,
+        high,
+        rows,
+        levels,
+        sizes,
+        swaps,
+        flips,
+        components,
+        bounds,
+        &mut solutions,
+        &mut starts,
+        &mut steps,
+        z,
+        &mut sums,
+        &mut products,
+        &mut struck,
+        &mut owners,
+    )
+}
+
+// Copies from into to.
+fn copy(to: &mut [u16], from: &[u16])
+    requires { ⌜ length (now to) ≡ length (now from) ⌝ }
+    ensures { λ _. ⌜ now (to .exit) ≡ now (from .entry) ⌝ }
+{
+    for i in 0..to.len() {
+        to[i] = from[i];
+    }
+}
+
+// The first plan among the moduli from low to high for a valid list, whose tables are made here. The vector is built in an array of
+// its own, so that the lent places are written only where there is a plan.
+fn search_list(plan: u8, d: usize, rows: &[i16], low: u16, high: u16, z: &mut [u16]) -> Plan
+    requires { ⌜ Searchable plan d (now rows) low high (now z) ⌝ }
+    ensures { λ r. ⌜ PlanBetween (Admissible plan (indexList d (now (rows .entry)))) d low high (now (z .entry)) (now (z .exit)) r ⌝ }
+{
+    let mut levels = [0i16; (AXES + 1) * LEVEL_ROOM];
+    let mut sizes = [0usize; AXES + 1];
+    let mut swaps = [0u8; AXES * AXES];
+    let mut flips = [0u8; AXES];
+    let mut components = [0i16; AXES * ROOM];
+    let mut bounds = [0u16; AXES * LASTS + 1];
+    let mut x = [0u16; AXES];
+    let listing = set_differences(plan, d, rows, &mut flips, &mut components, &mut bounds);
+    set_levels(plan, d, rows, listing.top, &mut levels, &mut sizes);
+    set_swaps(d, rows, &mut swaps);
+    let task = Task {
+        plan,
+        d,
+        top: listing.top,
+        tail: listing.tail,
+        whole: listing.whole,
+    };
+    let n = run_moduli(
+        task,
+        low,
+        high,
+        rows,
+        &levels,
+        &sizes,
+        &swaps,
+        &flips,
+        &components,
+        &bounds,
+        &mut x[..d],
+    );
+    if n == 0 {
+        return Plan::Refused(9);
+    }
+    copy(z, &x[..d]);
+    Plan::Found(n)
+}
+
+// The first modulus from low on that counting lets through: under plans 1 to 4 one below the number of rows fails.
+fn start_of(plan: u8, count: usize, low: u16) -> u16
+    requires { ⌜ count ≤ mostRows ⌝ }
+    ensures { λ r. ⌜ StartOf plan count low r ⌝ }
+{
+    if plan == 0 {
+        return low;
+    }
+    if wide(low) < count { count as u16 } else { low }
+}
+
+// The first plan among the moduli from low to high for a valid list.
+pub(crate) fn first_plan(
+    plan: u8,
+    d: usize,
+    rows: &[i16],
+    low: u16,
+    high: u16,
+    z: &mut [u16],
+) -> Plan
+    requires { ⌜ Searchable plan d (now rows) low high (now z) ⌝ }
+    ensures { λ r. ⌜ PlanBetween (Admissible plan (indexList d (now (rows .entry)))) d low high (now (z .entry)) (now (z .exit)) r ⌝ }
+{
+    let start = start_of(plan, rows.len() / d, low);
+    if high < start {
+        return Plan::Refused(9);
+    }
+    search_list(plan, d, rows, start, high, z)
+}
