@@ -73,6 +73,9 @@ def requests():
         yield Request("four axes, total degree 3", plan, large.total_degree(4, 3))
     for plan in (2, 3, 4):
         yield Request("four axes, rows (a, b, c, 1), a, b, c to 2", plan, without_lower)
+    for d, plan, bases in ((5, 2, (2, 3)), (5, 3, (2, 3, 5, 7, 11)), (6, 4, (2, 3, 5, 7, 11))):
+        rows = [tuple(pow(a, j, 251) for j in range(1, d + 1)) for a in bases]
+        yield Request("%s axes, %d rows (a, a², a³, ..) mod 251" % ({5: "five", 6: "six"}[d], len(rows)), plan, rows)
     for count in (40, 80, 100, 150):
         for plan in (2, 4):
             yield Request("three axes, %d weighted rows" % count, plan, large.weighted(3, large.WEIGHTS[3], count))

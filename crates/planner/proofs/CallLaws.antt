@@ -15,6 +15,7 @@ use Rattle.rank1.proofs.IndexLaws.{member-length}
 use Rattle.rank1.proofs.RefusalLaws.{firstOf-none, firstOf-none-append}
 use Rattle.rank1.proofs.ValidLaws.{plan-clear, map-plan-clear, valid-list, valid-pair}
 use Rattle.planner.specs.declared.Verdict.the-variants as answer
+use Rattle.planner.specs.Sizes.{largestComponent}
 use Rattle.planner.specs.Answer.{verdict, written, Answered}
 use Rattle.planner.specs.Inner.{Products, Covered, Ready}
 
@@ -54,7 +55,7 @@ module _ (plan d : ℕ) (xs : List ℤ) (n : ℕ) (z : List ℕ) where
   }
 
 -- ---- the components of a valid list, in document 01's range
-pub covered-valid : (plan d : ℕ) (xs : List ℤ) → ValidList plan d xs → Covered 255 xs
+pub covered-valid : (plan d : ℕ) (xs : List ℤ) → ValidList plan d xs → Covered largestComponent xs
 covered-valid plan d xs v = record { narrow = omega arith; covered = v .small }
 
 -- ---- answers: r is the refusal's number as the code found it

@@ -152,10 +152,9 @@ pub record RunStart (bounds : List ℕ) (j t start : ℕ) : Type 0 where
   pub inside : start ≤ axes * room
 
 module _ (n j : ℕ) (components : List ℤ) (bounds products sums : List ℕ) where
-  -- what it asks; components up to `tail` are looked at
-  pub record Sievable (tail : ℕ) (solutions starts steps : List ℕ) : Type 0 where
+  -- what it asks
+  pub record Sievable (solutions starts steps : List ℕ) : Type 0 where
     pub bounded : Bounds bounds
-    pub short : tail < lasts
     pub solved : SolutionsOf n solutions starts steps
     pub readable : Readable n j components products sums (getD bounds (suc j * lasts) 0) (getD bounds (suc (suc j) * lasts) 0)
 

@@ -185,7 +185,7 @@ pub record Siftable (n at tail : ℕ) (components : List ℤ) (bounds products s
   pub short : tail < lasts
   pub solved : SolutionsOf n solutions starts steps
   pub marks : length struck ≡ suc (axes * largestModulus)
-  pub sievable : (before : ℕ) → at ≡ suc before → Sievable n before components bounds products sums tail solutions starts steps
+  pub sievable : (before : ℕ) → at ≡ suc before → Sievable n before components bounds products sums solutions starts steps
 
 -- a difference forbids the value v of component at: of the first, or of one behind it
 pub data Ruled (n at : ℕ) (components : List ℤ) (bounds products sums : List ℕ) (v : ℕ) : Type 0 where

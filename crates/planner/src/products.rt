@@ -23,7 +23,7 @@ pub(crate) fn place_of(x: i16) -> usize
 }
 
 // The size of x.
-fn size_of(x: i16) -> usize
+pub(crate) fn size_of(x: i16) -> usize
     requires { ⌜ natAbs x ≤ largestSize ⌝ }
     ensures { λ r. ⌜ r ≡ natAbs x ⌝ }
 {

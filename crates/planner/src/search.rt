@@ -166,7 +166,6 @@ fn sieve_at(
     sieve(
         n,
         at - 1,
-        tail,
         components,
         bounds,
         solutions,

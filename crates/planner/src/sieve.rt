@@ -3,6 +3,7 @@
 
 use crate::products::negative;
 use crate::products::place_of;
+use crate::products::size_of;
 use crate::products::sum_of;
 use crate::rule::clear;
 use crate::runs::occurs;
@@ -17,7 +18,7 @@ ghost use Prim.Native.Nat.{ℕ, suc, _+_, _*_, _%_, _≤_, _<_};
 ghost use lib.ListN.{length, getD};
 ghost use Rattle.rank1.specs.Valid.{ValidModulus};
 ghost use Rattle.planner.specs.Sieve.{Markable, Marking, SolutionsSet, SolutionsOf, Tabulable, TablesTo, Run, part, Strikable, Struck, Readable, SumsSet, RunAsked, RunStart, Sievable, Barred, AllBarred, Sieved, FirstSievable, FirstBarred, AllFirstBarred};
-ghost use Rattle.planner.specs.Sizes.{axes, largestModulus};
+ghost use Rattle.planner.specs.Sizes.{axes, largestModulus, room, lasts};
 
 // Sets the residues of the parts before axis at + 1, for the differences from `from` to before `to`, from those before axis at.
 pub(crate) fn set_sums(
@@ -131,7 +132,8 @@ fn run_start(bounds: &[u16], before: usize, t: usize) -> usize
     before * ROOM + wide(bounds[(before + 1) * LASTS + t])
 }
 
-// Strikes by the run of the differences that end at the axis behind `before` with component t, where t has a table of solutions.
+// Strikes by the run of the differences that end at the axis behind `before` with component t, where t has a table of solutions and
+// the run a difference.
 fn strike_run(
     n: u16,
     before: usize,
@@ -145,36 +147,57 @@ fn strike_run(
     products: &[u16],
     struck: &mut [u8],
 )
-    requires { ⌜ Sievable n before (now components) (now bounds) (now products) (now sums) t (now solutions) (now starts) (now steps) ⌝ }
-    requires { ⌜ n < length (now struck) ⌝ }
+    requires { ⌜ Sievable n before (now components) (now bounds) (now products) (now sums) (now solutions) (now starts) (now steps) ⌝ }
+    requires { ⌜ (t < lasts) × (n < length (now struck)) ⌝ }
     ensures { λ _. ⌜ Barred n before (now (components .entry)) (now (bounds .entry)) (now (products .entry)) (now (sums .entry)) (now (struck .entry)) (now (struck .exit)) ⌝ }
 {
     let step = steps[t];
     if step != 0 {
         let begin = run_start(bounds, before, t);
         let end = run_start(bounds, before, t + 1);
-        let axis = before * PLACES;
-        let behind = axis + PLACES;
-        let start = starts[t];
-        let stop = start + wide(n);
-        strike(
-            n,
-            t,
-            step,
-            &sums[begin..end],
-            &components[begin..end],
-            &products[axis..behind],
-            &solutions[start..stop],
-            struck,
-        );
+        if begin < end {
+            let axis = before * PLACES;
+            let behind = axis + PLACES;
+            let start = starts[t];
+            let stop = start + wide(n);
+            strike(
+                n,
+                t,
+                step,
+                &sums[begin..end],
+                &components[begin..end],
+                &products[axis..behind],
+                &solutions[start..stop],
+                struck,
+            );
+        }
     }
 }
 
-// The same, where the run has a difference at all: most last components that some axis has are not among those of this one.
-fn visit_run(
+// Takes all marks of a part away.
+fn clear_marks(struck: &mut [u8])
+    ensures { λ _. ⌜ (length (now (struck .exit)) ≡ length (now (struck .entry))) × ((v : ℕ) → v < length (now (struck .entry)) → getD (now (struck .exit)) v 0 ≡ 0) ⌝ }
+{
+    for v in 0..struck.len() {
+        struck[v] = 0;
+    }
+}
+
+// Where the run behind that of place `at` starts. It is never `at` itself, whatever the bound is, so that a walk over the runs ends.
+fn next_run(at: usize, bound: usize) -> usize
+    requires { ⌜ at < axes * room ⌝ }
+    ensures { λ r. ⌜ at < r ⌝ }
+{
+    if at < bound { bound } else { at + 1 }
+}
+
+// Sieves among the marks of the axis behind `before` alone: those that are left have been struck by one of its runs. The walk goes from
+// run to run: `at` is the place of a run's first difference among the numbers of axis `before`, and ROOM places on, among those of the
+// axis behind, stands its last component. Where the next run starts is looked up before this one is struck: the processor then need not
+// wait for it.
+fn strike_runs(
     n: u16,
     before: usize,
-    t: usize,
     components: &[i16],
     bounds: &[u16],
     solutions: &[u16],
@@ -184,12 +207,16 @@ fn visit_run(
     products: &[u16],
     struck: &mut [u8],
 )
-    requires { ⌜ Sievable n before (now components) (now bounds) (now products) (now sums) t (now solutions) (now starts) (now steps) ⌝ }
-    requires { ⌜ n < length (now struck) ⌝ }
-    ensures { λ _. ⌜ Barred n before (now (components .entry)) (now (bounds .entry)) (now (products .entry)) (now (sums .entry)) (now (struck .entry)) (now (struck .exit)) ⌝ }
+    requires { ⌜ Sievable n before (now components) (now bounds) (now products) (now sums) (now solutions) (now starts) (now steps) ⌝ }
+    requires { ⌜ length (now struck) ≡ suc n ⌝ }
+    ensures { λ _. ⌜ AllBarred n before (now (components .entry)) (now (bounds .entry)) (now (products .entry)) (now (sums .entry)) (now (struck .exit)) ⌝ }
 {
-    let run = (before + 1) * LASTS + t;
-    if bounds[run] < bounds[run + 1] {
+    clear_marks(struck);
+    let end = run_start(bounds, before, LASTS);
+    let mut at = run_start(bounds, before, 0);
+    while at < end {
+        let t = size_of(components[at + ROOM]);
+        let next = next_run(at, run_start(bounds, before, t + 1));
         strike_run(
             n,
             before,
@@ -203,51 +230,7 @@ fn visit_run(
             products,
             struck,
         );
-    }
-}
-
-// Takes all marks of a part away.
-fn clear_marks(struck: &mut [u8])
-    ensures { λ _. ⌜ (length (now (struck .exit)) ≡ length (now (struck .entry))) × ((v : ℕ) → v < length (now (struck .entry)) → getD (now (struck .exit)) v 0 ≡ 0) ⌝ }
-{
-    for v in 0..struck.len() {
-        struck[v] = 0;
-    }
-}
-
-// Sieves among the marks of the axis behind `before` alone: those that are left have been struck by one of its runs.
-fn strike_runs(
-    n: u16,
-    before: usize,
-    tail: usize,
-    components: &[i16],
-    bounds: &[u16],
-    solutions: &[u16],
-    starts: &[usize],
-    steps: &[u16],
-    sums: &[u16],
-    products: &[u16],
-    struck: &mut [u8],
-)
-    requires { ⌜ Sievable n before (now components) (now bounds) (now products) (now sums) tail (now solutions) (now starts) (now steps) ⌝ }
-    requires { ⌜ length (now struck) ≡ suc n ⌝ }
-    ensures { λ _. ⌜ AllBarred n before (now (components .entry)) (now (bounds .entry)) (now (products .entry)) (now (sums .entry)) (now (struck .exit)) ⌝ }
-{
-    clear_marks(struck);
-    for t in 1..tail + 1 {
-        visit_run(
-            n,
-            before,
-            t,
-            components,
-            bounds,
-            solutions,
-            starts,
-            steps,
-            sums,
-            products,
-            struck,
-        );
+        at = next;
     }
 }
 
@@ -279,7 +262,6 @@ pub(crate) fn sieve_first(n: u16, tail: usize, bounds: &[u16], steps: &[u16], st
 pub(crate) fn sieve(
     n: u16,
     before: usize,
-    tail: usize,
     components: &[i16],
     bounds: &[u16],
     solutions: &[u16],
@@ -289,7 +271,7 @@ pub(crate) fn sieve(
     products: &[u16],
     struck: &mut [u8],
 )
-    requires { ⌜ Sievable n before (now components) (now bounds) (now products) (now sums) tail (now solutions) (now starts) (now steps) ⌝ }
+    requires { ⌜ Sievable n before (now components) (now bounds) (now products) (now sums) (now solutions) (now starts) (now steps) ⌝ }
     requires { ⌜ length (now struck) ≡ suc (axes * largestModulus) ⌝ }
     ensures { λ _. ⌜ Sieved n before (now (components .entry)) (now (bounds .entry)) (now (products .entry)) (now (sums .entry)) (now (struck .entry)) (now (struck .exit)) ⌝ }
 {
@@ -298,7 +280,6 @@ pub(crate) fn sieve(
     strike_runs(
         n,
         before,
-        tail,
         components,
         bounds,
         solutions,

@@ -279,7 +279,6 @@ siftable s T M at w g within = record {
   marks = g .marks;
   sievable = λ before e. record {
     bounded = bounded;
-    short = tabled .differenced .tails;
     solved = g .solutions;
     readable =
         readable s before (w .z) (w .sums) (w .products) (w .owners) (T .components) (getD (T .bounds) (suc before * lasts) 0) (getD (T .bounds) (suc (suc before) * lasts) 0)

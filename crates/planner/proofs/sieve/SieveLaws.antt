@@ -110,7 +110,7 @@ module _ (n : ℕ) (sums : List ℕ) (components : List ℤ) (products : List �
 -- ---- the run of the differences that end with component t at the axis behind axis j, as a part of the tables
 module _
     (n j t : ℕ) (components : List ℤ) (bounds products sums solutions starts steps : List ℕ)
-    (s : Sievable n j components bounds products sums t solutions starts steps)
+    (s : Sievable n j components bounds products sums solutions starts steps) (short : t < lasts)
     (begin end : ℕ) (b : RunStart bounds j t begin) (e : RunStart bounds j (t + 1) end)
   where
     -- the number of its difference i among all
@@ -125,14 +125,9 @@ module _
     next : getD bounds (suc j * lasts + (t + 1)) 0 ≡ getD bounds (suc (suc j * lasts + t)) 0
     next = ap (λ (c : ℕ). getD bounds c 0) (omega arith)
 
-    -- a run ends no earlier than it begins
-    pub run-ordered : begin ≤ end
-    run-ordered =
-        omega (arith, b .is, e .is, next, s .bounded .rising (suc j * lasts + t) (omega (arith, s .short, s .readable .inner)))
-
     -- its differences are among those of the axis
     low : (i : ℕ) → getD bounds (suc j * lasts) 0 ≤ number i
-    low i = omega (arith, bounds-rise bounds (s .bounded) (suc j * lasts) (suc j * lasts + t) (omega arith) (omega (arith, s .short, s .readable .inner)))
+    low i = omega (arith, bounds-rise bounds (s .bounded) (suc j * lasts) (suc j * lasts + t) (omega arith) (omega (arith, short, s .readable .inner)))
 
     inside : (i : ℕ) → i < end - begin → number i < getD bounds (suc (suc j * lasts + t)) 0
     inside i l = omega (arith, b .is, e .is, next)
@@ -141,9 +136,9 @@ module _
     high i l =
         omega (
           arith,
-          s .short,
+          short,
           inside i l,
-          bounds-rise bounds (s .bounded) (suc (suc j * lasts + t)) (suc (suc j) * lasts) (omega (arith, s .short)) (omega (arith, s .readable .inner)),
+          bounds-rise bounds (s .bounded) (suc (suc j * lasts + t)) (suc (suc j) * lasts) (omega (arith, short)) (omega (arith, s .readable .inner)),
         )
 
     -- its components and sums are those of its differences
@@ -195,7 +190,7 @@ module _
         go v (inr w) = inr record {
           last = t;
           which = number (w .which);
-          small = s .short;
+          small = short;
           from = omega arith;
           to = inside (w .which) (omega (arith, run-size, w .inside));
           solved = ap (λ (c : ℕ). (c + t * v) % n) (sym (same-part (w .which) (omega (arith, run-size, w .inside)))) ∙ w .solved;
@@ -211,10 +206,6 @@ table-cut n t start step r solutions e s =
     (s .right)
 
 module _ (n j : ℕ) (components : List ℤ) (bounds products sums : List ℕ) where
-  -- with a smaller largest component
-  pub sievable-less : (t tail : ℕ) (solutions starts steps : List ℕ) → t ≤ tail → Sievable n j components bounds products sums tail solutions starts steps → Sievable n j components bounds products sums t solutions starts steps
-  sievable-less t tail solutions starts steps l s = record { bounded = s .bounded; short = omega (arith, s .short); solved = s .solved; readable = s .readable }
-
   -- nothing is struck yet
   pub barred-none : (old : List ℕ) → Barred n j components bounds products sums old old
   barred-none old = record { size = refl; reason = λ v l m. inl m }

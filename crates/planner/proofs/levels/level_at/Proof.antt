@@ -8,39 +8,30 @@ use Rattle.planner.specs.Sizes.{levelRoom}
 use Rattle.planner.proofs.levels.level_at.Statement.{statement}
 use Rattle.planner.proofs.levels.level_at.Tie as tie
 
--- src/levels.rt:80:13
 mul-a : tie.Need-mul-a
 mul-a c = search needs
 
--- src/levels.rt:81:17
 mul-e : tie.Need-mul-e
 mul-e c = search needs
 
--- src/levels.rt:81:17
 shared-slice-read-e : tie.Need-shared-slice-read-e
 shared-slice-read-e c = search needs
 
--- src/levels.rt:81:13
 add-e : tie.Need-add-e
 add-e c = search needs
 
--- src/levels.rt:82:5
 mul-result : tie.Need-mul-result
 mul-result c = search needs
 
--- src/levels.rt:82:5
 sub-result : tie.Need-sub-result
 sub-result c = search needs
 
--- src/levels.rt:82:5
 part-result-start : tie.Need-part-result-start
 part-result-start c = search needs
 
--- src/levels.rt:82:5
 part-result-end : tie.Need-part-result-end
 part-result-end c = search needs
 
--- src/levels.rt:76:1
 returns : tie.Need-returns
 returns c =
     let a = c .before .before .args in

@@ -6,13 +6,26 @@ use native.Mathlib.Nat.{mul-le-mul-right}
 use native.Mathlib.Omega.{arith}
 use borrow.Author.Needs.{needs}
 use Rattle.rank1.specs.Index.{rowsOf, indexList}
-use Rattle.planner.specs.Sizes.{axes, room, largestSize, slotCount}
+use Rattle.planner.specs.Sizes.{axes, room, largestComponent, largestSize, slotCount}
 use Rattle.planner.proofs.CallLaws.{covered-valid}
 use Rattle.planner.proofs.products.ProductLaws.{covered-zeros, covered-wider}
 use Rattle.planner.proofs.runs.ChainLaws.{blank}
 use Rattle.planner.proofs.fill.FillLaws.{fillable-empty}
 use Rattle.planner.proofs.listing.set_differences.Statement.{statement}
 use Rattle.planner.proofs.listing.set_differences.Tie as tie
+
+-- ---- the places of the code that this proof speaks of, and the way from each back to the one before it
+-- the table is made
+abbrev entry : tie.After-fill-table → tie.Start
+entry c = c .before .before .before .before .before .before .before
+
+-- the axes whose sign can change are marked
+abbrev made : tie.After-set-flips → tie.After-fill-table
+made c = c .before .before .before .before .before .before .before .before
+
+-- the runs are laid out
+abbrev marked : tie.After-arrange → tie.After-set-flips
+marked c = c .before .before .before .before .before .before
 
 slice-aggregate-fill-table : tie.Need-slice-aggregate-fill-table
 slice-aggregate-fill-table c = search needs
@@ -41,8 +54,9 @@ slice-aggregate-set-flips-2 c = search needs
 
 set-flips-requires : tie.Need-set-flips-requires
 set-flips-requires c κs =
-    let b = c .before .before .before .before .before .before .before .before .before .before .before .before .before .before in
-    let f = c .before .before .before .before .before .before .before .fill-table .ensures in
+    let table = c .before .before .before .before .before .before .before in
+    let b = entry table in
+    let f = table .fill-table .ensures in
     ((b .pre .list .few-axes, omega (arith, b .pre .flip-size, b .pre .list .few-axes)), record { table = f .table; covers = f .covers })
 
 slice-aggregate-arrange : tie.Need-slice-aggregate-arrange
@@ -50,15 +64,15 @@ slice-aggregate-arrange c = search needs
 
 arrange-requires : tie.Need-arrange-requires
 arrange-requires c κs =
-    let b = c .before .before .before .before .before .before .before .before .before .before .before .before .before .before .before .before .before .before .before .before in
-    let made = c .before .before .before .before .before .before .before .before .before .before .before .before .before .fill-table in
-    let f = made .ensures in
+    let table = made (c .before .before .before .before .before) in
+    let b = entry table in
+    let f = table .fill-table .ensures in
     record {
       rows = record {
         some-axes = b .pre .list .some-axes;
         few-axes = b .pre .list .few-axes;
         few-rows = f .table .few;
-        whole = omega (arith, f .table .space, mul-le-mul-right {m = made .result .count} {n = room} (b .args .d) (f .table .few));
+        whole = omega (arith, f .table .space, mul-le-mul-right {m = table .fill-table .result .count} {n = room} (b .args .d) (f .table .few));
         small = f .covers;
       };
       wide = b .pre .wide;
@@ -67,8 +81,8 @@ arrange-requires c κs =
 
 largest-requires : tie.Need-largest-requires
 largest-requires c κs =
-    let b = c .before .before .before .before .before .before .before .before .before .before .before .before .before .before .before .before .before .before .before .before .before .before .before .before in
-    covered-wider 255 largestSize (b .args .rows .now) (omega arith) (omega arith) (covered-valid (b .args .plan) (b .args .d) (b .args .rows .now) (b .pre .list))
+    let b = entry (made (marked (c .before .before .before))) in
+    covered-wider largestComponent largestSize (b .args .rows .now) (omega arith) (omega arith) (covered-valid (b .args .plan) (b .args .d) (b .args .rows .now) (b .pre .list))
 
 slice-aggregate-largest : tie.Need-slice-aggregate-largest
 slice-aggregate-largest c = search needs
@@ -90,25 +104,27 @@ same-length-3 c = search needs
 
 returns : tie.Need-returns
 returns c =
-    let b = c .before .before .before .before .before .before .before .before .before .before .before .before .before .before .before .before .before .before .before .before .before .before .before .before .before .before .before .before in
+    let arranged = c .before .before .before .before .before .before .before in
+    let table = made (marked arranged) .fill-table in
+    let flips = marked arranged .set-flips in
+    let b = entry (made (marked arranged)) in
     let a = b .args in
-    let made = c .before .before .before .before .before .before .before .before .before .before .before .before .before .before .before .before .before .before .before .before .before .fill-table in
-    let flips = c .before .before .before .before .before .before .before .before .before .before .before .before .before .set-flips in
-    let runs = c .before .before .before .before .before .before .before .arrange in
+    let runs = arranged .arrange .ensures in
     let rows = c .before .before .before .largest in
     let found = c .before .largest2 in
     let top = c .larger in
+    let D = table .last .1 .1 .1 .1 .1 .0 in
     record {
       covers = covered-wider (rows .result) (top .result) (a .rows .now) (top .ensures .0) (top .ensures .2) (rows .ensures);
       flip-size = flips .kept .1 .1 .1 .1 .1 .0 ∙ b .pre .flip-size;
-      flips-right = flips .ensures (indexList (a .d) (a .rows .now)) (made .ensures);
-      differences = rowsOf (a .d) (made .result .count) (made .last .1 .1 .1 .1 .1 .0);
-      sound = made .ensures .sound;
-      arranged = runs .ensures .arranged;
+      flips-right = flips .ensures (indexList (a .d) (a .rows .now)) (table .ensures);
+      differences = rowsOf (a .d) (table .result .count) D;
+      sound = table .ensures .sound;
+      arranged = runs .arranged;
       small =
-          runs .ensures .covers (top .result) (covered-wider (found .result) (top .result) (made .last .1 .1 .1 .1 .1 .0) (top .ensures .1) (top .ensures .2) (found .ensures))
+          runs .covers (top .result) (covered-wider (found .result) (top .result) D (top .ensures .1) (top .ensures .2) (found .ensures))
           (covered-wider 0 (top .result) (a .components .now) (omega arith) (top .ensures .2) (b .pre .zeros));
-      tails = runs .ensures .short;
+      tails = runs .short;
     }
 
 pub set-differences-spec : {M : Type 1} → statement M

@@ -2,6 +2,7 @@
 use mathlib.Core.Path.{sym, _∙_}
 use Prim.Native.Nat.{suc, _-_}
 use native.Mathlib.Omega.{arith}
+use Rattle.rank1.specs.Rule.{Rule}
 use Rattle.planner.specs.Stage.{ListTables, listTables, ModulusTables, modulusTables, Work, work, ruleOf}
 use Rattle.planner.proofs.moduli.ModuliLaws.{Ascending, ascend-none, ascend-more, ascended, all-failed}
 use Rattle.planner.proofs.moduli.first_modulus.Statement.{statement}
@@ -25,98 +26,128 @@ modulusOf b = modulusTables (b .args .solutions .now) (b .args .starts .now) (b 
 abbrev workOf : tie.Start Inv-loop μ-loop → Work
 workOf b = work (b .args .z .now) (b .args .sums .now) (b .args .products .now) (b .args .struck .now) (b .args .owners .now)
 
+-- ---- the places of the code that this proof speaks of, and the way from each back to the one before it
+-- the loop, before each modulus
+abbrev entry : tie.At-loop Inv-loop μ-loop → tie.Start Inv-loop μ-loop
+entry c = c .before .before .before .before .before .before .before .before .before .before .before .before .before
+
+-- a modulus is tried
+abbrev looped : tie.After-first-vector Inv-loop μ-loop → tie.At-loop Inv-loop μ-loop
+looped c = c .before .before .before .before .before .before .before .before .before .before
+
+-- it has a first vector, or it fails
+abbrev found : tie.Then1 Inv-loop μ-loop → tie.After-first-vector Inv-loop μ-loop
+found c = c .before .before .before .before .before .before .before .before .before .before .before .before .before .before .before .before .before
+
+abbrev failed : tie.Else1 Inv-loop μ-loop → tie.After-first-vector Inv-loop μ-loop
+failed c = c .before .before .before .before .before .before .before .before .before .before .before .before .before .before .before .before .before
+
+-- what stands in the tables of the modulus and in the work: before a modulus, and behind it
+abbrev modulusLooped : tie.At-loop Inv-loop μ-loop → ModulusTables
+modulusLooped c = modulusTables (c .loop .solutions) (c .loop .starts) (c .loop .steps)
+
+abbrev workLooped : tie.At-loop Inv-loop μ-loop → Work
+workLooped c = work (c .loop .z) (c .loop .sums) (c .loop .products) (c .loop .struck) (c .loop .owners)
+
+abbrev modulusTried : tie.After-first-vector Inv-loop μ-loop → ModulusTables
+modulusTried c = let v = c .first-vector in modulusTables (v .last .1 .1 .1 .1 .1 .1 .1 .1 .1 .0) (v .last .1 .1 .1 .1 .1 .1 .1 .1 .1 .1 .0) (v .last .1 .1 .1 .1 .1 .1 .1 .1 .1 .1 .1 .0)
+
+abbrev workTried : tie.After-first-vector Inv-loop μ-loop → Work
+workTried c =
+    let v = c .first-vector in
+    work (v .last .1 .1 .1 .1 .1 .1 .1 .1 .1 .1 .1 .1 .0) (v .last .1 .1 .1 .1 .1 .1 .1 .1 .1 .1 .1 .1 .1 .0) (v .last .1 .1 .1 .1 .1 .1 .1 .1 .1 .1 .1 .1 .1 .1 .0) (v .last .1 .1 .1 .1 .1 .1 .1 .1 .1 .1 .1 .1 .1 .1 .1 .0) (v .last .1 .1 .1 .1 .1 .1 .1 .1 .1 .1 .1 .1 .1 .1 .1 .1 .0)
+
+-- the rule that is searched for
+abbrev ruleAt : tie.Start Inv-loop μ-loop → Rule
+ruleAt b = ruleOf (b .args .task .plan) (b .args .task .d) (tablesOf b)
+
+-- ---- the needs
 loop-holds : tie.Need-loop-holds Inv-loop μ-loop
 loop-holds c =
     let b = c .before .before .before .before .before .before .before .before .before .before .before .before in
-    ascend-none (ruleOf (b .args .task .plan) (b .args .task .d) (tablesOf b)) (b .args .task .d) (b .args .low) (modulusOf b) (workOf b) (b .pre .1 .2)
+    ascend-none (ruleAt b) (b .args .task .d) (b .args .low) (modulusOf b) (workOf b) (b .pre .1 .2)
 
 first-vector-requires : tie.Need-first-vector-requires Inv-loop μ-loop
 first-vector-requires c κs =
-    let b = c .before .before .before .before .before .before .before .before .before .before .before .before .before .before .before .before .before .before .before .before .before .before in
-    let inv = c .before .before .before .before .before .before .before .before .before .loop .inv in
-    (b .pre .0, (record { low = omega (arith, inv .from-low); high = omega (arith, c .before .before .before .before .before .before .before .before .loop-test .taken) }, inv .roomy))
+    let test = c .before .before .before .before .before .before .before .before in
+    let inv = test .before .loop .inv in
+    (entry (test .before) .pre .0, (record { low = omega (arith, inv .from-low); high = omega (arith, test .loop-test .taken) }, inv .roomy))
 
 same-length : tie.Need-same-length Inv-loop μ-loop
-same-length c = c .before .before .before .before .before .before .before .before .before .before .before .before .before .before .before .before .before .first-vector .ensures .1 .solutions ∙ sym (c .before .before .before .before .before .before .before .before .before .before .before .before .before .before .before .before .before .before .before .before .before .before .before .before .before .before .before .before .before .before .before .before .before .before .before .before .before .before .before .before .pre .1 .2 .solutions)
+same-length c = found c .first-vector .ensures .1 .solutions ∙ sym (entry (looped (found c)) .pre .1 .2 .solutions)
 
 same-length-2 : tie.Need-same-length-2 Inv-loop μ-loop
-same-length-2 c = c .before .before .before .before .before .before .before .before .before .before .before .before .before .before .before .before .before .first-vector .ensures .1 .starts ∙ sym (c .before .before .before .before .before .before .before .before .before .before .before .before .before .before .before .before .before .before .before .before .before .before .before .before .before .before .before .before .before .before .before .before .before .before .before .before .before .before .before .before .pre .1 .2 .starts)
+same-length-2 c = found c .first-vector .ensures .1 .starts ∙ sym (entry (looped (found c)) .pre .1 .2 .starts)
 
 same-length-3 : tie.Need-same-length-3 Inv-loop μ-loop
-same-length-3 c = c .before .before .before .before .before .before .before .before .before .before .before .before .before .before .before .before .before .first-vector .ensures .1 .steps ∙ sym (c .before .before .before .before .before .before .before .before .before .before .before .before .before .before .before .before .before .before .before .before .before .before .before .before .before .before .before .before .before .before .before .before .before .before .before .before .before .before .before .before .pre .1 .2 .steps)
+same-length-3 c = found c .first-vector .ensures .1 .steps ∙ sym (entry (looped (found c)) .pre .1 .2 .steps)
 
 same-length-4 : tie.Need-same-length-4 Inv-loop μ-loop
-same-length-4 c = c .before .before .before .before .before .before .before .before .before .before .before .before .before .before .before .before .before .first-vector .ensures .1 .z ∙ sym (c .before .before .before .before .before .before .before .before .before .before .before .before .before .before .before .before .before .before .before .before .before .before .before .before .before .before .before .before .before .before .before .before .before .before .before .before .before .before .before .before .pre .1 .2 .z)
+same-length-4 c = found c .first-vector .ensures .1 .z ∙ sym (entry (looped (found c)) .pre .1 .2 .z)
 
 same-length-5 : tie.Need-same-length-5 Inv-loop μ-loop
-same-length-5 c = c .before .before .before .before .before .before .before .before .before .before .before .before .before .before .before .before .before .first-vector .ensures .1 .sums ∙ sym (c .before .before .before .before .before .before .before .before .before .before .before .before .before .before .before .before .before .before .before .before .before .before .before .before .before .before .before .before .before .before .before .before .before .before .before .before .before .before .before .before .pre .1 .2 .sums)
+same-length-5 c = found c .first-vector .ensures .1 .sums ∙ sym (entry (looped (found c)) .pre .1 .2 .sums)
 
 same-length-6 : tie.Need-same-length-6 Inv-loop μ-loop
-same-length-6 c = c .before .before .before .before .before .before .before .before .before .before .before .before .before .before .before .before .before .first-vector .ensures .1 .products ∙ sym (c .before .before .before .before .before .before .before .before .before .before .before .before .before .before .before .before .before .before .before .before .before .before .before .before .before .before .before .before .before .before .before .before .before .before .before .before .before .before .before .before .pre .1 .2 .products)
+same-length-6 c = found c .first-vector .ensures .1 .products ∙ sym (entry (looped (found c)) .pre .1 .2 .products)
 
 same-length-7 : tie.Need-same-length-7 Inv-loop μ-loop
-same-length-7 c = c .before .before .before .before .before .before .before .before .before .before .before .before .before .before .before .before .before .first-vector .ensures .1 .struck ∙ sym (c .before .before .before .before .before .before .before .before .before .before .before .before .before .before .before .before .before .before .before .before .before .before .before .before .before .before .before .before .before .before .before .before .before .before .before .before .before .before .before .before .pre .1 .2 .struck)
+same-length-7 c = found c .first-vector .ensures .1 .struck ∙ sym (entry (looped (found c)) .pre .1 .2 .struck)
 
 same-length-8 : tie.Need-same-length-8 Inv-loop μ-loop
-same-length-8 c = c .before .before .before .before .before .before .before .before .before .before .before .before .before .before .before .before .before .first-vector .ensures .1 .owners ∙ sym (c .before .before .before .before .before .before .before .before .before .before .before .before .before .before .before .before .before .before .before .before .before .before .before .before .before .before .before .before .before .before .before .before .before .before .before .before .before .before .before .before .pre .1 .2 .owners)
+same-length-8 c = found c .first-vector .ensures .1 .owners ∙ sym (entry (looped (found c)) .pre .1 .2 .owners)
 
 returns : tie.Need-returns Inv-loop μ-loop
 returns c =
-    let b = c .before .before .before .before .before .before .before .before .before .before .before .before .before .before .before .before .before .before .before .before .before .before .before .before .before .before .before .before .before .before .before .before .before .before .before .before .before .before .before .before in
-    let l = c .before .before .before .before .before .before .before .before .before .before .before .before .before .before .before .before .before .before .before .before .before .before .before .before .before .before .before in
-    let call = c .before .before .before .before .before .before .before .before .before .before .before .before .before .before .before .before .before .first-vector in
-    ascended (ruleOf (b .args .task .plan) (b .args .task .d) (tablesOf b)) (b .args .task .d) (b .args .low) (l .loop .n) (b .args .high)
-    (modulusTables (l .loop .solutions) (l .loop .starts) (l .loop .steps)) (work (l .loop .z) (l .loop .sums) (l .loop .products) (l .loop .struck) (l .loop .owners))
-    (call .last .1 .1 .1 .1 .1 .1 .1 .1 .1 .1 .1 .1 .0) (l .loop .inv) (b .pre .1 .0) (c .before .before .before .before .before .before .before .before .before .before .before .before .before .before .before .before .before .before .before .before .before .before .before .before .before .before .loop-test .taken) (call .ensures .0 .found (c .if1 .taken))
+    let v = found c in
+    let l = looped v in
+    let b = entry l in
+    ascended (ruleAt b) (b .args .task .d) (b .args .low) (l .loop .n) (b .args .high) (modulusLooped l) (workLooped l) (workTried v .z) (l .loop .inv) (b .pre .1 .0)
+    (v .before .before .before .before .before .before .before .before .before .loop-test .taken) (v .first-vector .ensures .0 .found (c .if1 .taken))
 
 add-n : tie.Need-add-n Inv-loop μ-loop
-add-n c =
-    record { fits = omega (arith, c .before .before .before .before .before .before .before .before .before .before .before .before .before .before .before .before .before .before .before .before .before .before .before .before .before .before .loop-test .taken, c .before .before .before .before .before .before .before .before .before .before .before .before .before .before .before .before .before .before .before .before .before .before .before .before .before .before .before .before .before .before .before .before .before .before .before .before .before .before .before .before .pre .1 .1) }
+add-n c = record { fits = omega (arith, failed c .before .before .before .before .before .before .before .before .before .loop-test .taken, entry (looped (failed c)) .pre .1 .1) }
 
 loop-less : tie.Need-loop-less Inv-loop μ-loop
-loop-less c = omega (arith, c .before .before .before .before .before .before .before .before .before .before .before .before .before .before .before .before .before .before .before .before .before .before .before .before .before .before .loop-test .taken)
+loop-less c = omega (arith, failed c .before .before .before .before .before .before .before .before .before .loop-test .taken)
 
 loop-again : tie.Need-loop-again Inv-loop μ-loop
 loop-again c =
-    let b = c .before .before .before .before .before .before .before .before .before .before .before .before .before .before .before .before .before .before .before .before .before .before .before .before .before .before .before .before .before .before .before .before .before .before .before .before .before .before .before .before in
-    let l = c .before .before .before .before .before .before .before .before .before .before .before .before .before .before .before .before .before .before .before .before .before .before .before .before .before .before .before in
-    let call = c .before .before .before .before .before .before .before .before .before .before .before .before .before .before .before .before .before .first-vector in
-    ascend-more (ruleOf (b .args .task .plan) (b .args .task .d) (tablesOf b)) (b .args .task .d) (b .args .low) (l .loop .n)
-    (modulusTables (l .loop .solutions) (l .loop .starts) (l .loop .steps)) (modulusTables (call .last .1 .1 .1 .1 .1 .1 .1 .1 .1 .0) (call .last .1 .1 .1 .1 .1 .1 .1 .1 .1 .1 .0) (call .last .1 .1 .1 .1 .1 .1 .1 .1 .1 .1 .1 .0))
-    (work (l .loop .z) (l .loop .sums) (l .loop .products) (l .loop .struck) (l .loop .owners)) (work (call .last .1 .1 .1 .1 .1 .1 .1 .1 .1 .1 .1 .1 .0) (call .last .1 .1 .1 .1 .1 .1 .1 .1 .1 .1 .1 .1 .1 .0) (call .last .1 .1 .1 .1 .1 .1 .1 .1 .1 .1 .1 .1 .1 .1 .0) (call .last .1 .1 .1 .1 .1 .1 .1 .1 .1 .1 .1 .1 .1 .1 .1 .0) (call .last .1 .1 .1 .1 .1 .1 .1 .1 .1 .1 .1 .1 .1 .1 .1 .1 .0))
-    (l .loop .inv) (call .ensures .1) (call .ensures .0 .none (c .if1 .left))
+    let v = failed c in
+    let l = looped v in
+    let b = entry l in
+    ascend-more (ruleAt b) (b .args .task .d) (b .args .low) (l .loop .n) (modulusLooped l) (modulusTried v) (workLooped l) (workTried v) (l .loop .inv) (v .first-vector .ensures .1)
+    (v .first-vector .ensures .0 .none (c .if1 .left))
 
 same-length-9 : tie.Need-same-length-9 Inv-loop μ-loop
-same-length-9 c = c .before .loop .inv .roomy .solutions ∙ sym (c .before .before .before .before .before .before .before .before .before .before .before .before .before .before .pre .1 .2 .solutions)
+same-length-9 c = c .before .loop .inv .roomy .solutions ∙ sym (entry (c .before) .pre .1 .2 .solutions)
 
 same-length-10 : tie.Need-same-length-10 Inv-loop μ-loop
-same-length-10 c = c .before .loop .inv .roomy .starts ∙ sym (c .before .before .before .before .before .before .before .before .before .before .before .before .before .before .pre .1 .2 .starts)
+same-length-10 c = c .before .loop .inv .roomy .starts ∙ sym (entry (c .before) .pre .1 .2 .starts)
 
 same-length-11 : tie.Need-same-length-11 Inv-loop μ-loop
-same-length-11 c = c .before .loop .inv .roomy .steps ∙ sym (c .before .before .before .before .before .before .before .before .before .before .before .before .before .before .pre .1 .2 .steps)
+same-length-11 c = c .before .loop .inv .roomy .steps ∙ sym (entry (c .before) .pre .1 .2 .steps)
 
 same-length-12 : tie.Need-same-length-12 Inv-loop μ-loop
-same-length-12 c = c .before .loop .inv .roomy .z ∙ sym (c .before .before .before .before .before .before .before .before .before .before .before .before .before .before .pre .1 .2 .z)
+same-length-12 c = c .before .loop .inv .roomy .z ∙ sym (entry (c .before) .pre .1 .2 .z)
 
 same-length-13 : tie.Need-same-length-13 Inv-loop μ-loop
-same-length-13 c = c .before .loop .inv .roomy .sums ∙ sym (c .before .before .before .before .before .before .before .before .before .before .before .before .before .before .pre .1 .2 .sums)
+same-length-13 c = c .before .loop .inv .roomy .sums ∙ sym (entry (c .before) .pre .1 .2 .sums)
 
 same-length-14 : tie.Need-same-length-14 Inv-loop μ-loop
-same-length-14 c = c .before .loop .inv .roomy .products ∙ sym (c .before .before .before .before .before .before .before .before .before .before .before .before .before .before .pre .1 .2 .products)
+same-length-14 c = c .before .loop .inv .roomy .products ∙ sym (entry (c .before) .pre .1 .2 .products)
 
 same-length-15 : tie.Need-same-length-15 Inv-loop μ-loop
-same-length-15 c = c .before .loop .inv .roomy .struck ∙ sym (c .before .before .before .before .before .before .before .before .before .before .before .before .before .before .pre .1 .2 .struck)
+same-length-15 c = c .before .loop .inv .roomy .struck ∙ sym (entry (c .before) .pre .1 .2 .struck)
 
 same-length-16 : tie.Need-same-length-16 Inv-loop μ-loop
-same-length-16 c = c .before .loop .inv .roomy .owners ∙ sym (c .before .before .before .before .before .before .before .before .before .before .before .before .before .before .pre .1 .2 .owners)
+same-length-16 c = c .before .loop .inv .roomy .owners ∙ sym (entry (c .before) .pre .1 .2 .owners)
 
 returns-2 : tie.Need-returns-2 Inv-loop μ-loop
 returns-2 c =
-    let b = c .before .before .before .before .before .before .before .before .before .before .before .before .before .before in
     let l = c .before in
-    all-failed (ruleOf (b .args .task .plan) (b .args .task .d) (tablesOf b)) (b .args .task .d) (b .args .low) (l .loop .n) (b .args .high)
-    (modulusTables (l .loop .solutions) (l .loop .starts) (l .loop .steps)) (work (l .loop .z) (l .loop .sums) (l .loop .products) (l .loop .struck) (l .loop .owners))
-    (l .loop .z) (l .loop .inv) (omega (arith, c .loop-test .left))
+    let b = entry l in
+    all-failed (ruleAt b) (b .args .task .d) (b .args .low) (l .loop .n) (b .args .high) (modulusLooped l) (workLooped l) (l .loop .z) (l .loop .inv) (omega (arith, c .loop-test .left))
 
 pub first-modulus-spec : {M : Type 1} → statement M
 first-modulus-spec =

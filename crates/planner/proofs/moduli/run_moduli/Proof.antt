@@ -7,35 +7,27 @@ use Rattle.planner.proofs.runs.ChainLaws.{blank}
 use Rattle.planner.proofs.moduli.run_moduli.Statement.{statement}
 use Rattle.planner.proofs.moduli.run_moduli.Tie as tie
 
--- src/moduli.rt:184:9
 slice-aggregate-first-modulus : tie.Need-slice-aggregate-first-modulus
 slice-aggregate-first-modulus c = search needs
 
--- src/moduli.rt:185:9
 slice-aggregate-first-modulus-2 : tie.Need-slice-aggregate-first-modulus-2
 slice-aggregate-first-modulus-2 c = search needs
 
--- src/moduli.rt:186:9
 slice-aggregate-first-modulus-3 : tie.Need-slice-aggregate-first-modulus-3
 slice-aggregate-first-modulus-3 c = search needs
 
--- src/moduli.rt:188:9
 slice-aggregate-first-modulus-4 : tie.Need-slice-aggregate-first-modulus-4
 slice-aggregate-first-modulus-4 c = search needs
 
--- src/moduli.rt:189:9
 slice-aggregate-first-modulus-5 : tie.Need-slice-aggregate-first-modulus-5
 slice-aggregate-first-modulus-5 c = search needs
 
--- src/moduli.rt:190:9
 slice-aggregate-first-modulus-6 : tie.Need-slice-aggregate-first-modulus-6
 slice-aggregate-first-modulus-6 c = search needs
 
--- src/moduli.rt:191:9
 slice-aggregate-first-modulus-7 : tie.Need-slice-aggregate-first-modulus-7
 slice-aggregate-first-modulus-7 c = search needs
 
--- src/moduli.rt:173:5
 first-modulus-requires : tie.Need-first-modulus-requires
 first-modulus-requires c κs =
     let b = c .before .before .before .before .before .before .before .before .before .before .before .before .before in (
@@ -57,11 +49,9 @@ first-modulus-requires c κs =
       ),
     )
 
--- src/moduli.rt:149:1
 same-length : tie.Need-same-length
 same-length c = search needs
 
--- src/moduli.rt:149:1
 returns : tie.Need-returns
 returns c = search needs
 

@@ -21,19 +21,36 @@ use Rattle.planner.proofs.moduli.search_list.Tie as tie
 abbrev places-of-vector : List ℕ
 places-of-vector = replicate axes 0
 
--- what is left in the first d of them
+-- ---- the places of the code that this proof speaks of, and the way from each back to the one before it
+-- the differences are made
+abbrev entry : tie.After-set-differences → tie.Start
+entry c = c .before .before .before .before .before
+
+-- the rows that end early
+abbrev listed : tie.After-set-levels → tie.After-set-differences
+listed c = c .before .before .before .before .before .before
+
+-- the interchangeable axes
+abbrev levelled : tie.After-set-swaps → tie.After-set-levels
+levelled c = c .before .before .before .before
+
+-- the moduli are run
+abbrev start-of : tie.After-run-moduli → tie.Start
+start-of c = entry (listed (levelled (c .before .before .before .before .before .before .before .before .before)))
+
+-- what is left in the first d of the places
 abbrev vector-of : tie.After-run-moduli → List ℕ
 vector-of c = c .run-moduli .last .1 .1 .1 .1 .1 .1 .1 .1 .1 .1 .0
 
-kept-size : (c : tie.After-run-moduli) → length (vector-of c) ≡ length (take (c .before .before .before .before .before .before .before .before .before .before .before .before .before .before .before .before .before .before .before .before .before .before .before .before .args .d) places-of-vector)
+kept-size : (c : tie.After-run-moduli) → length (vector-of c) ≡ length (take (start-of c .args .d) places-of-vector)
 kept-size c = c .run-moduli .kept .1 .1 .1 .1 .1 .1 .1 .1 .1 .1 .0
 
-vector-size : (c : tie.After-run-moduli) → length (vector-of c) ≡ c .before .before .before .before .before .before .before .before .before .before .before .before .before .before .before .before .before .before .before .before .before .before .before .before .args .d
-vector-size c = kept-size c ∙ length-take-le (c .before .before .before .before .before .before .before .before .before .before .before .before .before .before .before .before .before .before .before .before .before .before .before .before .args .d) places-of-vector (c .before .before .before .before .before .before .before .before .before .before .before .before .before .before .before .before .before .before .before .before .before .before .before .before .pre .list .few-axes)
+vector-size : (c : tie.After-run-moduli) → length (vector-of c) ≡ start-of c .args .d
+vector-size c = kept-size c ∙ length-take-le (start-of c .args .d) places-of-vector (start-of c .pre .list .few-axes)
 
 -- the first d places hold it
-vector-read : (c : tie.After-run-moduli) → take (c .before .before .before .before .before .before .before .before .before .before .before .before .before .before .before .before .before .before .before .before .before .before .before .before .args .d) (vector-of c ++ drop (c .before .before .before .before .before .before .before .before .before .before .before .before .before .before .before .before .before .before .before .before .before .before .before .before .args .d) places-of-vector) ≡ vector-of c
-vector-read c = take-at (vector-of c) (drop (c .before .before .before .before .before .before .before .before .before .before .before .before .before .before .before .before .before .before .before .before .before .before .before .before .args .d) places-of-vector) (c .before .before .before .before .before .before .before .before .before .before .before .before .before .before .before .before .before .before .before .before .before .before .before .before .args .d) (vector-size c)
+vector-read : (c : tie.After-run-moduli) → let d = start-of c .args .d in take d (vector-of c ++ drop d places-of-vector) ≡ vector-of c
+vector-read c = let d = start-of c .args .d in take-at (vector-of c) (drop d places-of-vector) d (vector-size c)
 
 slice-aggregate-set-differences : tie.Need-slice-aggregate-set-differences
 slice-aggregate-set-differences c = search needs
@@ -64,7 +81,7 @@ slice-aggregate-set-levels-2 c = search needs
 
 set-levels-requires : tie.Need-set-levels-requires
 set-levels-requires c κs =
-    let b = c .before .before .before .before .before .before .before .before .before .before in
+    let b = entry (c .before .before .before .before .before) in
     let made = c .before .before .before .before .before .set-differences in
     ((b .pre .list, made .ensures .covers), record { tall = refl; long = refl; covers = covered-zeros (made .result .top) ((axes + 1) * levelRoom) (made .ensures .covers .narrow) })
 
@@ -73,7 +90,7 @@ slice-aggregate-set-swaps c = search needs
 
 set-swaps-requires : tie.Need-set-swaps-requires
 set-swaps-requires c κs =
-    let b = c .before .before .before .before .before .before .before .before .before .before .before .before .before .before in
+    let b = entry (listed (c .before .before .before)) in
     ((valid-whole (b .args .plan) (b .args .d) (b .args .rows .now) (b .pre .list), b .pre .list .few-axes), (refl, blank (axes * axes)))
 
 slice-aggregate-run-moduli : tie.Need-slice-aggregate-run-moduli
@@ -99,50 +116,55 @@ array-borrow-prefix-x c = search needs
 
 slice-aggregate-run-moduli-7 : tie.Need-slice-aggregate-run-moduli-7
 slice-aggregate-run-moduli-7 c =
-    let b = c .before .before .before .before .before .before .before .before .before .before .before .before .before .before .before .before .before .before .before .before .before .before .before in
+    let b = entry (listed (levelled (c .before .before .before .before .before .before .before .before))) in
     sym (length-take-le (b .args .d) places-of-vector (b .pre .list .few-axes))
 
 run-moduli-requires : tie.Need-run-moduli-requires
 run-moduli-requires c κs =
-    let b = c .before .before .before .before .before .before .before .before .before .before .before .before .before .before .before .before .before .before .before .before .before .before .before in
-    let made = c .before .before .before .before .before .before .before .before .before .before .before .before .before .before .before .before .before .before .set-differences in (
+    let swapped = c .before .before .before .before .before .before .before .before in
+    let rows = levelled swapped in
+    let made = listed rows .set-differences .ensures in
+    let b = entry (listed rows) in (
       record {
-        listed = record { plans = b .pre .plans; list = b .pre .list; covers = made .ensures .covers; ends = c .before .before .before .before .before .before .before .before .before .before .before .before .set-levels .ensures };
-        swaps = c .before .before .before .before .before .before .before .before .set-swaps .ensures;
-        differenced = made .ensures;
+        listed = record { plans = b .pre .plans; list = b .pre .list; covers = made .covers; ends = rows .set-levels .ensures };
+        swaps = swapped .set-swaps .ensures;
+        differenced = made;
       },
       (b .pre .some, b .pre .few, length-take-le (b .args .d) places-of-vector (b .pre .list .few-axes)),
     )
 
 returns : tie.Need-returns
 returns c =
-    let b = c .before .before .before .before .before .before .before .before .before .before .before .before .before .before .before .before .before .before .before .before .before .before .before .before .before .before in
+    let call = c .before .before in
+    let b = start-of call in
     let a = b .args in
-    between-none (Admissible (a .plan) (indexList (a .d) (a .rows .now))) (a .d) (a .low) (a .high) (a .z .now) (c .before .before .run-moduli .ensures) (c .if1 .taken)
+    between-none (Admissible (a .plan) (indexList (a .d) (a .rows .now))) (a .d) (a .low) (a .high) (a .z .now) (call .run-moduli .ensures) (c .if1 .taken)
 
 array-share-prefix-x : tie.Need-array-share-prefix-x
 array-share-prefix-x c =
-    let b = c .before .before .before .before .before .before .before .before .before .before .before .before .before .before .before .before .before .before .before .before .before .before .before .before .before .before .before in
-    omega (arith, b .pre .list .few-axes, length-front places-of-vector (vector-of (c .before .before .before)) (b .args .d) (kept-size (c .before .before .before)))
+    let call = c .before .before .before in
+    let b = start-of call in
+    omega (arith, b .pre .list .few-axes, length-front places-of-vector (vector-of call) (b .args .d) (kept-size call))
 
 slice-aggregate-copy : tie.Need-slice-aggregate-copy
-slice-aggregate-copy c =
-    sym (ap length (vector-read (c .before .before .before .before)) ∙ vector-size (c .before .before .before .before))
+slice-aggregate-copy c = let call = c .before .before .before .before in sym (ap length (vector-read call) ∙ vector-size call)
 
 copy-requires : tie.Need-copy-requires
 copy-requires c κs =
-    c .before .before .before .before .before .before .before .before .before .before .before .before .before .before .before .before .before .before .before .before .before .before .before .before .before .before .before .before .pre .places-for-z ∙ sym (ap length (vector-read (c .before .before .before .before)) ∙ vector-size (c .before .before .before .before))
+    let call = c .before .before .before .before in
+    start-of call .pre .places-for-z ∙ sym (ap length (vector-read call) ∙ vector-size call)
 
 same-length : tie.Need-same-length
 same-length c = search needs
 
 returns-2 : tie.Need-returns-2
 returns-2 c =
-    let b = c .before .before .before .before .before .before .before .before .before .before .before .before .before .before .before .before .before .before .before .before .before .before .before .before .before .before .before .before .before .before .before in
-    let a = b .args in
     let call = c .before .before .before .before .before .before .before in
-    between-found (Admissible (a .plan) (indexList (a .d) (a .rows .now))) (a .d) (a .low) (a .high) (a .z .now) (c .before .before .copy .last .0)
-    (c .before .before .copy .ensures ∙ vector-read call) (call .run-moduli .ensures) (c .before .before .before .before .before .if1 .left)
+    let b = start-of call in
+    let a = b .args in
+    let copied = c .before .before .copy in
+    between-found (Admissible (a .plan) (indexList (a .d) (a .rows .now))) (a .d) (a .low) (a .high) (a .z .now) (copied .last .0)
+    (copied .ensures ∙ vector-read call) (call .run-moduli .ensures) (c .before .before .before .before .before .if1 .left)
 
 pub search-list-spec : {M : Type 1} → statement M
 search-list-spec =

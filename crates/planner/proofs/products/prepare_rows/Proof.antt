@@ -1,6 +1,6 @@
 -- `products::prepare_rows` meets its contract: a valid call with the products of z is ready (`ready-whole`).
 use native.Mathlib.Omega.{arith}
-use Rattle.planner.specs.Sizes.{largestSize}
+use Rattle.planner.specs.Sizes.{largestComponent, largestSize}
 use Rattle.planner.proofs.CallLaws.{ready-whole, covered-valid}
 use Rattle.planner.proofs.products.ProductLaws.{covered-wider}
 use borrow.Author.Needs.{needs}
@@ -10,7 +10,7 @@ use Rattle.planner.proofs.products.prepare_rows.Tie as tie
 largest-requires : tie.Need-largest-requires
 largest-requires c κs =
     let s = c .before .before in
-    covered-wider 255 largestSize (s .args .rows .now) (omega arith) (omega arith) (covered-valid (s .args .plan) (s .args .d) (s .args .rows .now) (s .pre .0 .list))
+    covered-wider largestComponent largestSize (s .args .rows .now) (omega arith) (omega arith) (covered-valid (s .args .plan) (s .args .d) (s .args .rows .now) (s .pre .0 .list))
 
 prepare-requires : tie.Need-prepare-requires
 prepare-requires c κs =

@@ -8,23 +8,18 @@ use borrow.Author.Needs.{needs}
 use Rattle.planner.proofs.search.cannot_lead.Statement.{statement}
 use Rattle.planner.proofs.search.cannot_lead.Tie as tie
 
--- src/search.rt:97:9
 returns : tie.Need-returns
 returns c = λ e. absurd (false≢true e)
 
--- src/search.rt:100:9
 returns-2 : tie.Need-returns-2
 returns-2 c = λ e. absurd (false≢true e)
 
--- src/search.rt:103:9
 returns-3 : tie.Need-returns-3
 returns-3 c = λ e. absurd (false≢true e)
 
--- src/search.rt:105:5
 rem-result : tie.Need-rem-result
 rem-result c = search needs
 
--- src/search.rt:93:1
 returns-4 : tie.Need-returns-4
 returns-4 c =
     let a = c .before .before .before .before .before .args in λ e. record {

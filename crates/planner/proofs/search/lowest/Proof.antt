@@ -14,50 +14,39 @@ Inv-loop at swaps z low₀ i₀ low i = (i ≤ at) × Lowest swaps at z low
 abbrev μ-loop : tie.MeasureT-loop
 μ-loop at swaps z low₀ i₀ low i = at - i
 
--- src/search.rt:59:5
 loop-holds : tie.Need-loop-holds Inv-loop μ-loop
 loop-holds c = (omega arith, nothing refl)
 
--- src/search.rt:60:33
 mul-raised : tie.Need-mul-raised Inv-loop μ-loop
 mul-raised c = search needs
 
--- src/search.rt:60:33
 add-raised : tie.Need-add-raised Inv-loop μ-loop
 add-raised c = search needs
 
--- src/search.rt:60:27
 shared-slice-read-raised : tie.Need-shared-slice-read-raised Inv-loop μ-loop
 shared-slice-read-raised c = search needs
 
--- src/search.rt:60:49
 mul-raised-2 : tie.Need-mul-raised-2 Inv-loop μ-loop
 mul-raised-2 c = search needs
 
--- src/search.rt:60:49
 shared-slice-read-raised-2 : tie.Need-shared-slice-read-raised-2 Inv-loop μ-loop
 shared-slice-read-raised-2 c = search needs
 
--- src/search.rt:60:9
 raised-requires : tie.Need-raised-requires Inv-loop μ-loop
 raised-requires c κs = search needs
 
--- src/search.rt:59:9
 add-i : tie.Need-add-i Inv-loop μ-loop
 add-i c = search needs
 
--- src/search.rt:59:5
 loop-less : tie.Need-loop-less Inv-loop μ-loop
 loop-less c = search needs
 
--- src/search.rt:59:5
 loop-again : tie.Need-loop-again Inv-loop μ-loop
 loop-again c =
     let a = c .before .before .before .before .before .before .before .args in
     let l = c .before .before .before .before .loop in
     (omega arith, lowest-more (a .swaps .now) (a .at) (a .z .now) (l .low) (l .i) (c .raised .result) (omega arith) (c .raised .ensures) (l .inv .1))
 
--- src/search.rt:54:1
 returns : tie.Need-returns Inv-loop μ-loop
 returns c = c .before .loop .inv .1
 

@@ -15,37 +15,29 @@ Inv-loop base from end struck v₀ v = (from ≤ v) × ((w : ℕ) → from ≤ w
 abbrev μ-loop : tie.MeasureT-loop
 μ-loop base from end struck v₀ v = end - v
 
--- src/search.rt:83:5
 loop-holds : tie.Need-loop-holds Inv-loop μ-loop
 loop-holds c = (omega arith, λ w l h. absurd (omega arith))
 
--- src/search.rt:84:26
 wide-requires : tie.Need-wide-requires Inv-loop μ-loop
 wide-requires c κs = search needs
 
--- src/search.rt:84:19
 add-if1 : tie.Need-add-if1 Inv-loop μ-loop
 add-if1 c = search needs
 
--- src/search.rt:84:12
 shared-slice-read-if1 : tie.Need-shared-slice-read-if1 Inv-loop μ-loop
 shared-slice-read-if1 c = search needs
 
--- src/search.rt:85:13
 returns : tie.Need-returns Inv-loop μ-loop
 returns c =
     let l = c .before .before .before .before .loop in
     record { onward = λ _. l .inv .0; inside = omega arith; marked = l .inv .1 }
 
--- src/search.rt:87:9
 add-v : tie.Need-add-v Inv-loop μ-loop
 add-v c = search needs
 
--- src/search.rt:83:5
 loop-less : tie.Need-loop-less Inv-loop μ-loop
 loop-less c = search needs
 
--- src/search.rt:83:5
 loop-again : tie.Need-loop-again Inv-loop μ-loop
 loop-again c =
     let a = c .before .before .before .before .before .before .args in
@@ -53,7 +45,6 @@ loop-again c =
     let e : getD (a .struck .now) (a .base + l .v) 0 ≡ getD (a .struck .now) (a .base + c .before .before .wide .result) 0 = ap (λ (k : ℕ). getD (a .struck .now) (a .base + k) 0) (sym (c .before .before .wide .ensures)) in
     (omega arith, free-more (a .base) (a .from) (l .v) (a .struck .now) (λ o. c .if1 .left (sym e ∙ o)) (l .inv .1))
 
--- src/search.rt:78:1
 returns-2 : tie.Need-returns-2 Inv-loop μ-loop
 returns-2 c =
     let l = c .before .loop in

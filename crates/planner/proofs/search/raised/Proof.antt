@@ -4,15 +4,12 @@ use Rattle.planner.specs.Stage.{unraised, higher}
 use Rattle.planner.proofs.search.raised.Statement.{statement}
 use Rattle.planner.proofs.search.raised.Tie as tie
 
--- src/search.rt:48:9
 returns : tie.Need-returns
 returns c = unraised refl
 
--- src/search.rt:44:1
 returns-2 : tie.Need-returns-2
 returns-2 c = higher (c .before .if1 .left) refl
 
--- src/search.rt:44:1
 returns-3 : tie.Need-returns-3
 returns-3 c = unraised refl
 

@@ -60,7 +60,7 @@ same-length-2 c = search needs
 returns-2 : tie.Need-returns-2
 returns-2 c =
     let a = c .before .before .before .before .before .before .before .before .before .before .before .before .args in
-    sifted-behind (a .n) (a .at) (a .components .now) (a .bounds .now) (a .products .now) (a .sums .now) (a .at - 1) (a .struck .now) (c .before .before .sieve .last .1 .1 .1 .1 .1 .1 .1 .1 .1 .1 .0)
+    sifted-behind (a .n) (a .at) (a .components .now) (a .bounds .now) (a .products .now) (a .sums .now) (a .at - 1) (a .struck .now) (c .before .before .sieve .last .1 .1 .1 .1 .1 .1 .1 .1 .1 .0)
     (omega arith) (c .before .before .sieve .ensures)
 
 pub sieve-at-spec : {M : Type 1} → statement M

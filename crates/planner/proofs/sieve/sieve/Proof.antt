@@ -47,8 +47,8 @@ returns c =
     let end = first + c .before .before .before .before .wide .result + 1 in
     let run = c .before .before .strike-runs in
     sieved (a .n) (a .before) (a .components .now) (a .bounds .now) (a .products .now) (a .sums .now) (a .struck .now)
-    (run .last .1 .1 .1 .1 .1 .1 .1 .1 .1 .1 .0) (end - first) (s .pre .0 .readable .inner) (omega (arith, c .before .before .before .before .wide .ensures)) (s .pre .0 .readable .modulus .high) (s .pre .1)
-    (run .kept .1 .1 .1 .1 .1 .1 .1 .1 .1 .1 .0 ∙ cut-size first end (a .struck .now) (omega (arith, c .before .before .before .before .wide .ensures, s .pre .1, s .pre .0 .readable .inner, s .pre .0 .readable .modulus .high)))
+    (run .last .1 .1 .1 .1 .1 .1 .1 .1 .1 .0) (end - first) (s .pre .0 .readable .inner) (omega (arith, c .before .before .before .before .wide .ensures)) (s .pre .0 .readable .modulus .high) (s .pre .1)
+    (run .kept .1 .1 .1 .1 .1 .1 .1 .1 .1 .0 ∙ cut-size first end (a .struck .now) (omega (arith, c .before .before .before .before .wide .ensures, s .pre .1, s .pre .0 .readable .inner, s .pre .0 .readable .modulus .high)))
     (run .ensures)
 
 pub sieve-spec : {M : Type 1} → statement M
