@@ -281,7 +281,8 @@ def page(before, tables):
          "Times are of whole processes, the least of 5 turns below half a second, of 3 below five, else of 1; in a turn the programs run one",
          "after the other. `plan` is the proved program, the peer is bench/peer.cpp (plain C++, the same search, g++ -O3 -march=native), ratio",
          "plan's time over the peer's. Members are the rows or mirrors that differences are taken from, differences those that the peer keeps (all),",
-         "prefixes those whose next component it sieved."] + (earlier if before else [])
+         "prefixes those whose next component it sieved. Where the compiled recursion lies in memory moves times by up to 15 %",
+         "(docs/DECISIONS.md, \"Speed\"), so a change far from the search may do it."] + (earlier if before else [])
         + ["", "## Beside the peer", ""] + requested
         + ["", "## Beside the peer, where the table of differences is full", "",
            "`plan` keeps part of the differences there and the peer all of them; the answers are the same.", ""] + full

@@ -5,8 +5,9 @@
  * The arguments
  *   plan            0 exact integration, 1 Fourier reconstruction, 2, 3, 4 cosine plans A, B, C
  *   d               the number of axes, 1 to 6
- *   rows, rows_len  the list: m rows of d numbers, one after the other, so rows_len is m * d, m from 1 to 512. Each number is
- *                   from -255 to 255, not negative for plans 2, 3 and 4, and all rows differ
+ *   rows, rows_len  the list: m rows of d numbers, one after the other, so rows_len is m * d, m from 0 to 512. Each number is
+ *                   from -255 to 255, not negative for plans 2, 3 and 4, and all rows differ. A list of no rows has rows_len 0;
+ *                   rows may then be NULL
  *   n               the modulus, 1 to 8192
  *   z, z_len        the generating vector: d numbers from 0 to n - 1, so z_len is d
  * A length counts elements, not bytes.
@@ -17,7 +18,7 @@
  *
  *    1  plan above 4; for map, spread and gather also plan 0
  *    2  d not 1 to 6
- *    3  list empty, rows_len no multiple of d, or more than 512 rows
+ *    3  rows_len no multiple of d, or more than 512 rows
  *    4  a component of a row outside its range
  *    5  two equal rows
  *    6  n, or the ceiling, not 1 to 8192
@@ -28,9 +29,10 @@
  *   11  gather: a sum is no multiple of c, or a quotient does not fit 32 bits
  *
  * What the caller owes
- *   Every pointer is aligned and not null, also where its length is 0, and points to as many elements as its length says. What a
- *   call may write overlaps nothing else that it is passed, and nothing else touches the memory until it returns. A search takes
- *   less than 1.5 MiB of stack, any other call less than 256 KiB. The calls keep no state: different threads may call at once.
+ *   Every pointer is aligned and points to as many elements as its length says; one whose length is 0 is not followed and may be
+ *   NULL. The pointers without a length, yes and found, are not NULL. What a call may write overlaps nothing else that it is passed,
+ *   and nothing else touches the memory until it returns. A search takes less than 1.5 MiB of stack, any other call less than 256 KiB.
+ *   The calls keep no state: different threads may call at once.
  */
 #ifndef PLANNER_H
 #define PLANNER_H
@@ -52,7 +54,7 @@ uint8_t planner_check(uint8_t plan, size_t d, const int16_t *rows, size_t rows_l
 
 /*
  * The residue map: for each row its residue, and then c, the number of its mirrors (the row among them) that have this residue. For
- * plan 1 a row is its only mirror.
+ * plan 1 a row is its only mirror. A list of no rows has no map: out_len is 0.
  * Refusals: 1 (also plan 0) 2 3 4 5 6 7, 8 where out_len is not 2 * m, 10.
  * Writes, where it returns 0: out, 2 * m numbers.
  */
@@ -60,7 +62,7 @@ uint8_t planner_residue_map(uint8_t plan, size_t d, const int16_t *rows, size_t 
                             size_t z_len, uint16_t *out, size_t out_len);
 
 /*
- * Spreading: the sum at residue r adds a row's term once for each mirror of the row that has residue r.
+ * Spreading: the sum at residue r adds a row's term once for each mirror of the row that has residue r. Without rows all sums are 0.
  * terms: m numbers, one for each row.
  * Refusals: 1 (also plan 0) 2 3 4 5 6 7, 8 where terms_len is not m or sums_len is not n, 10.
  * Writes, where it returns 0: sums, n numbers.
@@ -94,7 +96,8 @@ uint8_t planner_search_vector(uint8_t plan, size_t d, const int16_t *rows, size_
                               uint16_t *found);
 
 /*
- * The smallest plan: the smallest modulus from 1 to the ceiling that has an admissible vector, and the first such vector.
+ * The smallest plan: the smallest modulus from 1 to the ceiling that has an admissible vector, and the first such vector. For a list
+ * of no rows every pair is admissible, so it is n = 1 with the vector of zeros.
  * Refusals: 1 2 3 4 5 6, 8 where z_len is not d, 9 where no modulus up to the ceiling has one.
  * Writes, where it returns 0: z, d numbers from 0 to *found - 1, and *found, the modulus.
  * It may take long: the ceiling bounds the moduli that it tries.

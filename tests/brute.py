@@ -1,7 +1,7 @@
-"""A brute-force planner, written from document 01's words alone, to hold the proved planner against.
+"""A brute-force planner, written from the words of documents 01 and 02 alone, to hold the proved planner against.
 
 It shares nothing with the crates and knows no shortcut: every modulus from 1 upward, every vector in dictionary order, every rule
-pair by pair. A list is a tuple of rows, a row a tuple of d numbers.
+pair by pair. A list is a tuple of rows, a row a tuple of d numbers; a list may have no rows.
 
     python3 tests/brute.py < request      prints the answer, as the program `plan` would
 """
@@ -84,22 +84,22 @@ def admissible(plan, rows, n, z):
 # Search
 
 @functools.lru_cache(maxsize=None)
-def first_vector(plan, rows, n):
-    """The first admissible vector at n in dictionary order, or None.
+def first_vector(plan, d, rows, n):
+    """The first admissible vector of d components at n in dictionary order, or None.
 
     Components from 0 to n-1 are all there is to try: a residue does not change when a multiple of n is added to a component.
     The result is kept, so that one list under several ceilings costs its moduli only once.
     """
-    for z in itertools.product(range(n), repeat=len(rows[0])):
+    for z in itertools.product(range(n), repeat=d):
         if admissible(plan, rows, n, z):
             return z
     return None
 
 
-def smallest(plan, rows, ceiling):
+def smallest(plan, d, rows, ceiling):
     """The smallest plan: n and z, moduli tried upward from 1 to the ceiling."""
     for n in range(1, ceiling + 1):
-        z = first_vector(plan, rows, n)
+        z = first_vector(plan, d, rows, n)
         if z is not None:
             return n, z
     raise Refused(9)
@@ -179,7 +179,7 @@ def read_line(data, count, field):
 
 
 def read_ticket(data):
-    """Plan, rows and ceiling of a request; its refusals (all but 9) in document 01's order for the program."""
+    """Plan, number of axes, rows and ceiling of a request; its refusals (all but 9) in document 01's order for the program."""
     if len(data) > MOST_BYTES:
         raise Refused(12)
     (plan, d, m, ceiling), rest = read_line(data, 4, PLAIN_FIELD)
@@ -187,7 +187,7 @@ def read_ticket(data):
         raise Refused(1)
     if not 1 <= d <= MOST_AXES:
         raise Refused(2)
-    if not 1 <= m <= MOST_ROWS:
+    if m > MOST_ROWS:
         raise Refused(3)
 
     rows = []
@@ -207,14 +207,14 @@ def read_ticket(data):
             raise Refused(5)
     if not 1 <= ceiling <= MOST_MODULUS:
         raise Refused(6)
-    return plan, tuple(rows), ceiling
+    return plan, d, tuple(rows), ceiling
 
 
 def answer(data):
     """What the program prints for the bytes read."""
     try:
-        plan, rows, ceiling = read_ticket(data)
-        n, z = smallest(plan, rows, ceiling)
+        plan, d, rows, ceiling = read_ticket(data)
+        n, z = smallest(plan, d, rows, ceiling)
     except Refused as refusal:
         return b"refused %d\n" % refusal.number
     lines = [(n,) + z]

@@ -2,9 +2,9 @@
 
     python3 tests/program.py          after rt ci or rt check, which build target/bin/plan
 
-Requests: the examples, those of tests/requests.py that are too long for `trials` (tests/brute.sh writes them), one for each refusal that the program can give, the
-same request written slowly through a pipe, and a few hundred random byte strings, of which each must end with status 0 and one
-well-formed answer that the brute-force planner gives too.
+Requests: the examples, a ticket without terms under each plan, those of tests/requests.py that are too long for `trials` (tests/brute.sh writes
+them), one for each refusal that the program can give, the same request written slowly through a pipe, and a few hundred random byte
+strings, of which each must end with status 0 and one well-formed answer that the brute-force planner gives too.
 """
 
 import glob
@@ -22,6 +22,7 @@ HERE = os.path.dirname(os.path.abspath(__file__))
 PROGRAM = os.path.join(HERE, "..", "target", "bin", "plan")
 EXAMPLE = b"4 1 3 10\n0\n1\n2\n"
 PRINTED = b"4 1\n0 1\n1 1\n2 2\n"
+NO_TERMS = b"%d 2 0 10\n"                               # document 02, a: a ticket without terms
 WELL_FORMED = re.compile(rb"refused (?:[1-9]|1[0-2])\n|(?:\d+(?: \d+)+\n)+")
 
 # one request for each number that the program can refuse with
@@ -68,6 +69,10 @@ def main():
 
     same(EXAMPLE, run(EXAMPLE), PRINTED)
     same(EXAMPLE, run_slowly(EXAMPLE), PRINTED)
+    for plan in range(5):
+        same(NO_TERMS % plan, run(NO_TERMS % plan), b"1 0 0\n")
+        for behind in (b"\n", b" ", b"0 0\n"):
+            same(NO_TERMS % plan + behind, run(NO_TERMS % plan + behind), b"refused 12\n")
     for number, request in REFUSED.items():
         same(request, run(request), b"refused %d\n" % number)
         same(request, run_slowly(request[:40]), brute.answer(request[:40]))

@@ -112,7 +112,7 @@ def fits(plan, rows, reach=LARGEST):
 def plan_of(plan, rows, reach=LARGEST):
     """The smallest plan within the brute force's reach, or None."""
     try:
-        return brute.smallest(plan, rows, reach[len(rows[0])])
+        return brute.smallest(plan, len(rows[0]), rows, reach[len(rows[0])])
     except brute.Refused:
         return None
 
@@ -120,11 +120,10 @@ def plan_of(plan, rows, reach=LARGEST):
 def affordable(request):
     """Whether the brute force can answer this text at all: it is refused at sight, or its search ends within reach."""
     try:
-        plan, rows, ceiling = brute.read_ticket(request)
+        plan, d, rows, ceiling = brute.read_ticket(request)
     except brute.Refused:
         return True
-    reach = LARGEST[len(rows[0])]
-    return ceiling <= reach or fits(plan, rows) and plan_of(plan, rows) is not None
+    return ceiling <= LARGEST[d] or not rows or fits(plan, rows) and plan_of(plan, rows) is not None
 
 
 def under_ceilings(rng, plan, rows):
@@ -552,6 +551,21 @@ def single_rows():
     return requests
 
 
+def no_rows():
+    """Tickets without terms (document 02, a): under every plan on one to six axes, with ceilings in and out of range; line 1 at its
+    limits beside them; anything behind line 1."""
+    requests = []
+    for plan in range(6):
+        for d in range(8):
+            for ceiling in (0, 1, 2, 10, 8192, 8193):
+                requests.append(b"%d %d 0 %d\n" % (plan, d, ceiling))
+    for plan in range(5):
+        for d in (1, 2, 6):
+            for behind in (b" ".join([b"0"] * d) + b"\n", b"0\n", b"\n", b" ", b"\0", b"\r\n", b"0", b"%d %d 0 10\n" % (plan, d)):
+                requests.append(b"%d %d 0 10\n" % (plan, d) + behind)
+    return requests + [b"2 2 0 10", b"2 2 0 10 ", b"2 2 0 10 \n", b"2 2 0 10\r\n", b"2 2 00 10\n", b"2 2 -0 10\n", b"2 2  10\n", b"2 2 10\n"]
+
+
 # Then the refusals.
 
 def line_1():
@@ -585,7 +599,7 @@ def rows_and_m_apart():
         rows = draw_list(rng, plan, d)
         first, rest = large.ticket(plan, rows, 20).split(b"\n", 1)
         claimed = rng.choice([1, 2, len(rows) - 1, len(rows) + 1, 512])
-        if claimed not in (0, len(rows)):
+        if claimed != len(rows):
             requests.append(b"%d %d %d 20\n" % (plan, d, claimed) + rest)
         other = rng.choice([x for x in range(1, 7) if x != d])
         requests.append(b"%d %d %d 20\n" % (plan, other, len(rows)) + rest)
@@ -751,7 +765,7 @@ def noise():
 def too_many_bytes():
     """Around 32,768 bytes: one more is 12 whatever the text holds, that many is read."""
     requests = []
-    for first in (b"5 1 1 5\n", b"1 0 1 5\n", b"1 1 0 5\n", b"1 1 1 5\n1\n", b"1 1 1 0\n256\n", b"x"):
+    for first in (b"5 1 1 5\n", b"1 0 1 5\n", b"1 1 513 5\n", b"1 1 0 5\n", b"1 1 1 5\n1\n", b"1 1 1 0\n256\n", b"x"):
         for size in (32767, 32768, 32769, 40000):
             requests.append(first + b"1\n" * ((size - len(first)) // 2) + b"1" * ((size - len(first)) % 2))
     requests.append(b"0" * 32769)
@@ -762,7 +776,7 @@ def too_many_bytes():
 
 KINDS = (documents, random_lists, not_lower, lower, symmetric, nearly_symmetric, unused_axes, far_components,
          first_component_above_one, wide, named_sets, many_rows, sign_changes, shared_factors, large_differences, same_end, found_late,
-         single_rows, line_1, rows_and_m_apart, components, equal_rows, several_faults,
+         single_rows, no_rows, line_1, rows_and_m_apart, components, equal_rows, several_faults,
          damaged, mutated, noise, too_many_bytes)
 
 
@@ -805,8 +819,8 @@ def costs():
             else:
                 counts["plans"] += 1
             if text[:8] != b"refused " or text == b"refused 9\n":
-                plan, rows, _ = brute.read_ticket(request)
-                lists.add((plan, rows))
+                plan, d, rows, _ = brute.read_ticket(request)
+                lists.add((plan, d, rows))
         counts["lists"] = len(lists)
         seconds = time.time() - start
         row = list(counts.values()) + [seconds]

@@ -1,5 +1,5 @@
-"""Holds the brute-force planner to document 01: its trial tickets, printed example, bad blanks and refusal examples, and to the
-smallest moduli that document 000 gives in (4.9) and (4.12).
+"""Holds the brute-force planner to document 01: its trial tickets, printed example, bad blanks and refusal examples; to document 02,
+a; and to the smallest moduli that document 000 gives in (4.9) and (4.12).
 
     python3 tests/test_brute.py      prints 'brute: N checks passed'
 """
@@ -40,20 +40,20 @@ check(sorted(brute.all_mirrors(((0,), (1,), (2,)))), [(-2,), (-1,), (0,), (1,), 
 # The trial tickets
 three = ((0,), (1,), (2,))
 pair = ((0, 0), (1, 0), (0, 1))
-check(brute.smallest(1, three, 8192), (3, (1,)))
-check(brute.smallest(2, three, 8192), (5, (1,)))
-check(brute.smallest(3, three, 8192), (5, (1,)))
-check(brute.smallest(4, three, 8192), (4, (1,)))
+check(brute.smallest(1, 1, three, 8192), (3, (1,)))
+check(brute.smallest(2, 1, three, 8192), (5, (1,)))
+check(brute.smallest(3, 1, three, 8192), (5, (1,)))
+check(brute.smallest(4, 1, three, 8192), (4, (1,)))
 check([c for _, c in brute.residue_map(4, three, 4, (1,))], [1, 1, 2])
-check(brute.smallest(1, pair, 8192), (3, (1, 2)))
-check(brute.smallest(2, pair, 8192), (5, (1, 2)))
-check(brute.smallest(4, pair, 8192), (4, (1, 2)))
-check(brute.smallest(2, ((1, 1),), 8192), (5, (1, 2)))
-check(brute.smallest(3, ((1, 1),), 8192), (3, (1, 1)))
-check(brute.smallest(4, ((1, 1),), 8192), (1, (0, 0)))
+check(brute.smallest(1, 2, pair, 8192), (3, (1, 2)))
+check(brute.smallest(2, 2, pair, 8192), (5, (1, 2)))
+check(brute.smallest(4, 2, pair, 8192), (4, (1, 2)))
+check(brute.smallest(2, 2, ((1, 1),), 8192), (5, (1, 2)))
+check(brute.smallest(3, 2, ((1, 1),), 8192), (3, (1, 1)))
+check(brute.smallest(4, 2, ((1, 1),), 8192), (1, (0, 0)))
 check(brute.residue_map(4, ((1, 1),), 1, (0, 0)), [(0, 4)])
-check(brute.smallest(0, ((6,),), 4), (4, (1,)))
-check(refusal(brute.smallest, 0, ((6,),), 3), 9)
+check(brute.smallest(0, 1, ((6,),), 4), (4, (1,)))
+check(refusal(brute.smallest, 0, 1, ((6,),), 3), 9)
 check(brute.spread(4, three, 4, (1,), (5, -3, 2)), [5, -3, 4, -3])
 check(brute.gather(4, three, 4, (1,), [5, -3, 4, -3]), [5, -3, 2])
 check(brute.points(1, 5, (1, 2))[3], [3, 1])
@@ -71,13 +71,28 @@ check(brute.answer(b"0 1 1 3\n6\n"), b"refused 9\n")
 check(brute.answer(b"0 1 1 8192\n0\n"), b"1 0\n")
 check(brute.answer(b"1 1 2 8192\n-7\n1\n"), b"3 1\n2 1\n1 1\n")
 
+# A ticket without terms (document 02, a)
+for plan in range(5):
+    for d in range(1, 7):
+        check(brute.smallest(plan, d, (), 8192), (1, (0,) * d))
+    check(brute.admissible(plan, (), 5, (3, 3)), True)
+    check(brute.answer(b"%d 2 0 10\n" % plan), b"1 0 0\n")
+    check(brute.answer(b"%d 2 0 0\n" % plan), b"refused 6\n")
+    for behind in (b"0 0\n", b"\n", b" ", b"1"):
+        check(brute.answer(b"%d 2 0 10\n" % plan + behind), b"refused 12\n")
+for plan in range(1, 5):
+    check(brute.residue_map(plan, (), 5, (1, 2)), [])
+    check(brute.spread(plan, (), 3, (1, 2), ()), [0, 0, 0])
+    check(brute.gather(plan, (), 3, (1, 2), [5, 6, 7]), [])
+check(brute.answer(b"2 2 0 10"), b"refused 12\n")
+
 # Bad blanks: no halving over n
 six = ((6,),)
-check([n for n in range(1, 8) if brute.first_vector(0, six, n) is not None], [4, 5, 7])
+check([n for n in range(1, 8) if brute.first_vector(0, 1, six, n) is not None], [4, 5, 7])
 # residue 0 has its opposite at 0, not at place n
 check(brute.spread(2, three, 5, (1,), (7, 0, 0)), [7, 0, 0, 0, 0])
 # no pruning by shortened rows: (3) and (0) share a residue under the first component 0, and 1 tells them apart later
-check(brute.smallest(1, ((3, 0), (0, 1)), 8192), (2, (0, 1)))
+check(brute.smallest(1, 2, ((3, 0), (0, 1)), 8192), (2, (0, 1)))
 # a zero component has one sign only
 check(brute.residue_map(4, ((0, 0, 0),), 1, (0, 0, 0)), [(0, 1)])
 check(brute.residue_map(4, ((0, 5),), 1, (0, 0)), [(0, 2)])
@@ -86,7 +101,6 @@ check(brute.residue_map(4, ((0, 5),), 1, (0, 0)), [(0, 2)])
 check(brute.answer(b"5 1 1 4\n6\n"), b"refused 1\n")
 check(brute.answer(b"1 0 1 4\n\n"), b"refused 2\n")
 check(brute.answer(b"1 7 1 4\n1 1 1 1 1 1 1\n"), b"refused 2\n")
-check(brute.answer(b"1 1 0 4\n"), b"refused 3\n")
 check(brute.answer(b"1 1 513 4\n"), b"refused 3\n")
 check(brute.answer(b"2 1 1 4\n-1\n"), b"refused 4\n")
 check(brute.answer(b"1 1 1 4\n256\n"), b"refused 4\n")
@@ -117,9 +131,10 @@ check(brute.answer(b"999999 1 1 1\n1\n"), b"refused 1\n")
 check(brute.answer(b"1 999999 1 1\n1\n"), b"refused 2\n")
 check(brute.answer(b"1 1 999999 1\n1\n"), b"refused 3\n")
 check(brute.answer(b"1 1 1 999999\n1\n"), b"refused 6\n")
-check(brute.answer(b"5 0 0 0\nrubbish"), b"refused 1\n")
-check(brute.answer(b"1 0 0 0\nrubbish"), b"refused 2\n")
-check(brute.answer(b"1 1 0 0\nrubbish"), b"refused 3\n")
+check(brute.answer(b"5 0 513 0\nrubbish"), b"refused 1\n")
+check(brute.answer(b"1 0 513 0\nrubbish"), b"refused 2\n")
+check(brute.answer(b"1 1 513 0\nrubbish"), b"refused 3\n")
+check(brute.answer(b"1 1 0 0\nrubbish"), b"refused 12\n")
 check(brute.answer(b"1 1 2 0\n256\n256"), b"refused 12\n")
 check(brute.answer(b"1 1 2 0\n256\n256\n"), b"refused 4\n")
 check(brute.answer(b"1 1 2 0\n3\n3\n"), b"refused 5\n")
@@ -131,11 +146,11 @@ check(brute.answer(b"5 1 1 1\n" + b"x" * 32761), b"refused 12\n")               
 # Document 000: the smallest modulus of plan A for blocks, crosses and triangles
 for k1 in range(3):
     for k2 in range(3):
-        check(brute.smallest(2, tuple(large.block((k1, k2))), 8192)[0], (2 * k1 + 1) * (2 * k2 + 1))
+        check(brute.smallest(2, 2, tuple(large.block((k1, k2))), 8192)[0], (2 * k1 + 1) * (2 * k2 + 1))
 for k in ((1, 1), (1, 2), (2, 2), (3, 2), (3, 4)):
-    check(brute.smallest(2, tuple(large.cross(k)), 8192)[0], (k[0] + 1) * (k[1] + 1) + 1)
+    check(brute.smallest(2, 2, tuple(large.cross(k)), 8192)[0], (k[0] + 1) * (k[1] + 1) + 1)
 for k in range(4):
-    check(brute.smallest(2, tuple(large.triangle(k)), 8192)[0], 2 * k * k + 2 * k + 1)
+    check(brute.smallest(2, 2, tuple(large.triangle(k)), 8192)[0], 2 * k * k + 2 * k + 1)
 
 # The index sets of large.py
 check(large.main_effects(2, 2), [(0, 0), (1, 0), (0, 1), (2, 0), (0, 2)])

@@ -1,6 +1,6 @@
 //! Rank-1 lattices that keep the terms of a list apart.
 //!
-//! A list is rows of `d` whole numbers, given as one slice with the rows one after the other. A plan is a modulus n and a
+//! A list is 0 to 512 rows of `d` whole numbers, given as one slice with the rows one after the other. A plan is a modulus n and a
 //! generating vector z of d components from 0 to n - 1. A row's residue is that of its product with z at n, and a [`Rule`] says
 //! which rows may not share one. A row's mirrors are the different rows got by changing signs of its components; for
 //! [`Rule::Fourier`] the row is its only one.
@@ -248,6 +248,14 @@ pub fn search_vector_into(rule: Rule, d: usize, rows: &[i16], n: u16, z: &mut [u
 
 /// The smallest modulus from 1 to the ceiling that has an admissible vector, and the first such vector in dictionary order.
 /// Refusals: 1 to 6 and 9. It may take long for long lists: the ceiling bounds the moduli that it tries.
+///
+/// ```
+/// use planner::{residue_map, search_smallest, Plan, Rule};
+/// assert_eq!(search_smallest(Rule::CosineA, 2, &[0, 0, 1, 0, 0, 1], 10), Ok(Plan { n: 5, z: vec![1, 2] }));
+/// // a list of no rows has a plan too: one lens, all settings 0
+/// assert_eq!(search_smallest(Rule::CosineA, 2, &[], 10), Ok(Plan { n: 1, z: vec![0, 0] }));
+/// assert_eq!(residue_map(Rule::CosineA, 2, &[], 1, &[0, 0]), Ok(vec![]));
+/// ```
 pub fn search_smallest(rule: Rule, d: usize, rows: &[i16], ceiling: u16) -> Result<Plan, Refusal> {
     let mut z = vec![0; d.min(MOST_AXES)];
     let n = search_smallest_into(rule, d, rows, ceiling, &mut z)?;

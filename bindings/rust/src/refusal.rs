@@ -10,7 +10,7 @@ pub enum Refusal {
     Plan,
     /// 2: the number of axes is not 1 to 6.
     Axes,
-    /// 3: the list is empty, its length is no multiple of the number of axes, or it has more than 512 rows.
+    /// 3: the length of the list is no multiple of the number of axes, or it has more than 512 rows.
     Length,
     /// 4: a component is not from -255 to 255, or is negative in a cosine plan.
     Component,
@@ -91,7 +91,7 @@ impl fmt::Display for Refusal {
         f.write_str(match self {
             Refusal::Plan => "there is no such plan, or it has no map",
             Refusal::Axes => "the number of axes is not 1 to 6",
-            Refusal::Length => "the list is empty, of a wrong length, or has more than 512 rows",
+            Refusal::Length => "the list is of a wrong length, or has more than 512 rows",
             Refusal::Component => "a component of a row is outside its range",
             Refusal::EqualRows => "two rows are equal",
             Refusal::Modulus => "the modulus is not 1 to 8192",

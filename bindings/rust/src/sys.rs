@@ -1,8 +1,9 @@
 //! The library's functions as they are. A slice is passed as its pointer and then its length. Each returns the number of the
 //! refusal, 0 for none; then what it was lent is written, and otherwise left as it was.
 //!
-//! What a caller owes: every pointer is aligned and not null, also where its length is 0, and points to as many elements as its
-//! length says, and what may be written overlaps nothing else that is passed. `include/planner.h` says what each call does.
+//! What a caller owes: every pointer is aligned and points to as many elements as its length says, where one whose length is 0 may be
+//! null; `yes` and `found` are not null; and what may be written overlaps nothing else that is passed. `include/planner.h` says what
+//! each call does.
 
 extern "C" {
     pub fn planner_check(

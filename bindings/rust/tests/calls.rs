@@ -7,6 +7,7 @@ mod random;
 
 use std::collections::BTreeMap;
 use std::fmt::Debug;
+use std::ptr::{null, null_mut};
 
 use planner::{sys, Entry, Plan, Refusal, Rule};
 use random::Random;
@@ -639,13 +640,72 @@ fn searches() {
     }
 }
 
-/// What document 01 prints: the ten trial tickets, the lines below them, and the small example of each refusal.
+/// The list of no rows (document 02, a): every pair is admissible, the smallest plan is n = 1 with the zero vector, the map and the
+/// terms have no places, and the sums are zeros.
+#[test]
+fn no_rows() {
+    let mut random = Random::new(8);
+    let mut seen = Default::default();
+    for turn in 0..600 {
+        let plan = (turn % 5) as u8;
+        let d = 1 + turn % 6;
+        let most = random.pick(&[1, 5, 100, 8192]);
+        let n = 1 + random.below(most) as u16;
+        let z: Vec<u16> = (0..d).map(|_| random.below(usize::from(n)) as u16).collect();
+        let mut c = Case { plan, d, rows: vec![], n, z };
+        assert_eq!(compare_check(&c), Ok(true), "{c:?}");
+        assert_eq!(compare_search(Search::Vector, &c, d), Ok((n, vec![0; d])), "{c:?}");
+        assert_eq!(compare_search(Search::Smallest, &c, d), Ok((1, vec![0; d])), "{c:?}");
+        if plan != 0 {
+            assert_eq!(compare_map(&c, 0), Ok(vec![]), "{c:?}");
+            assert_eq!(compare_spread(&c, &[], usize::from(n)), Ok(vec![0; usize::from(n)]), "{c:?}");
+            assert_eq!(compare_gather(&c, &vec![random.sum(); usize::from(n)], 0), Ok(vec![]), "{c:?}");
+            assert_eq!(compare_map(&c, 2), Err(8), "{c:?}");
+            assert_eq!(compare_spread(&c, &[1], usize::from(n)), Err(8), "{c:?}");
+            assert_eq!(compare_gather(&c, &vec![0; usize::from(n)], 1), Err(8), "{c:?}");
+        }
+        damage_some(&mut c, 2, &mut random);
+        compare_all(&c, &mut random, &mut seen);
+    }
+}
+
+/// A slice of length 0 may have a null pointer, in every call: a list of no rows with its terms and its map, and what is then refused.
+#[test]
+fn null_pointers() {
+    let z = [1u16, 2];
+    for plan in 1..5 {
+        let (mut yes, mut found, mut vector, mut sums) = (7, 9, [9; 2], [9; 5]);
+        unsafe {
+            assert_eq!(sys::planner_check(plan, 2, null(), 0, 5, z.as_ptr(), 2, &mut yes), 0);
+            assert_eq!(sys::planner_residue_map(plan, 2, null(), 0, 5, z.as_ptr(), 2, null_mut(), 0), 0);
+            let terms = null();
+            assert_eq!(sys::planner_spread(plan, 2, null(), 0, 5, z.as_ptr(), 2, terms, 0, sums.as_mut_ptr(), 5), 0);
+            let terms = null_mut();
+            assert_eq!(sys::planner_gather(plan, 2, null(), 0, 5, z.as_ptr(), 2, sums.as_ptr(), 5, terms, 0), 0);
+            assert_eq!(sys::planner_search_smallest(plan, 2, null(), 0, 5, vector.as_mut_ptr(), 2, &mut found), 0);
+        }
+        assert_eq!((yes, found, vector, sums), (1, 1, [0; 2], [0; 5]));
+        unsafe {
+            assert_eq!(sys::planner_search_vector(plan, 2, null(), 0, 5, vector.as_mut_ptr(), 2, &mut found), 0);
+            assert_eq!(sys::planner_check(plan, 2, null(), 0, 5, null(), 0, &mut yes), 7);
+            assert_eq!(sys::planner_point_list(plan, 2, 5, null(), 0, null_mut(), 0), 7);
+            assert_eq!(sys::planner_point_list(plan, 2, 5, z.as_ptr(), 2, null_mut(), 0), 8);
+            assert_eq!(sys::planner_spread(plan, 2, null(), 0, 5, z.as_ptr(), 2, null(), 0, null_mut(), 0), 8);
+            assert_eq!(sys::planner_gather(plan, 2, null(), 0, 5, z.as_ptr(), 2, null(), 0, null_mut(), 0), 8);
+            assert_eq!(sys::planner_search_smallest(plan, 2, null(), 0, 5, null_mut(), 0, &mut found), 8);
+        }
+        assert_eq!((yes, found, vector, sums), (1, 5, [0; 2], [0; 5]));
+    }
+}
+
+/// What documents 01 and 02 print: the ten trial tickets and the ticket without terms, the lines below them, and the small example of
+/// each refusal.
 #[test]
 fn documented() {
     let rows = [0, 1, 2];
     let axes = [0, 0, 1, 0, 0, 1];
     type Ticket<'a> = (u8, usize, &'a [i16], u16, &'a [u16]);
-    let tickets: [Ticket; 10] = [
+    let tickets: [Ticket; 15] = [
         (1, 1, &rows, 3, &[1]),
         (2, 1, &rows, 5, &[1]),
         (3, 1, &rows, 5, &[1]),
@@ -656,6 +716,11 @@ fn documented() {
         (2, 2, &[1, 1], 5, &[1, 2]),
         (3, 2, &[1, 1], 3, &[1, 1]),
         (4, 2, &[1, 1], 1, &[0, 0]),
+        (0, 2, &[], 1, &[0, 0]),
+        (1, 2, &[], 1, &[0, 0]),
+        (2, 2, &[], 1, &[0, 0]),
+        (3, 2, &[], 1, &[0, 0]),
+        (4, 2, &[], 1, &[0, 0]),
     ];
     for (plan, d, rows, n, z) in tickets {
         let c = Case::new(plan, d, rows, 12, &[]);

@@ -24,6 +24,7 @@ pub mod SumExamples
 pub mod VectorLaws
 pub mod FirstLaws
 pub mod CountingLaws
+pub mod NoRows
 pub mod SearchTests
 pub mod Trials
 pub mod RefusalTrials

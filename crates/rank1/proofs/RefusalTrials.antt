@@ -1,6 +1,6 @@
--- The refusal table of document 01 on examples, by computing: its column of small examples, and for each call its order. Each
--- line of an order has arguments to which two conditions that stand next to each other both apply, and gives the number of the
--- first: exchanging the two would break it.
+-- The refusal table of document 01 on examples, by computing: its column of small examples, the list of no rows, and for each call
+-- its order. Each line of an order has arguments to which two conditions that stand next to each other both apply, and gives the
+-- number of the first: exchanging the two would break it.
 use mathlib.Core.Path.{_≡_, refl}
 use mathlib.Core.List.{List, [], _∷_, _++_, map}
 use Prim.Native.Nat.{ℕ}
@@ -41,6 +41,22 @@ pub examples :
 unfolding checkRefusal mapRefusal spreadRefusal gatherRefusal pointRefusal searchRefusal admissible
 examples = refl
 
+-- ---- the list of no rows (document 02, a)
+-- it passes in every call that takes a list; its map and terms have no places, its sums have n
+pub no-rows-pass :
+    (checkRefusal 0 2 [] 1 (0 ∷ 0 ∷ [])
+    ∷ mapRefusal 1 2 [] 3 (1 ∷ 2 ∷ []) 0
+    ∷ spreadRefusal 2 2 [] 3 (1 ∷ 2 ∷ []) 0 3
+    ∷ gatherRefusal 3 2 [] 3 (1 ∷ 2 ∷ []) (run (5 ∷ 0 ∷ 7 ∷ [])) 0
+    ∷ searchRefusal 4 2 [] 8192 2
+    ∷ mapRefusal 1 2 [] 3 (1 ∷ 2 ∷ []) 2
+    ∷ spreadRefusal 2 2 [] 3 (1 ∷ 2 ∷ []) 1 3
+    ∷ gatherRefusal 3 2 [] 3 (1 ∷ 2 ∷ []) (run (5 ∷ 0 ∷ 7 ∷ [])) 1
+    ∷ [])
+    ≡ 0 ∷ 0 ∷ 0 ∷ 0 ∷ 0 ∷ 8 ∷ 8 ∷ 8 ∷ []
+unfolding checkRefusal mapRefusal spreadRefusal gatherRefusal searchRefusal admissible
+no-rows-pass = refl
+
 -- ---- the orders
 -- plan, d, list and modulus to which apply: 1 and 2, 2 and 3, 3 and 4, 4 and 5, 5 and 6
 record Arguments : Type 0 where
@@ -55,7 +71,7 @@ args p d xs n = record { plan = p; axes = d; numbers = xs; modulus = n }
 abbrev clashes : List Arguments
 clashes =
     args 5 0 (0 ∷ []) 1
-    ∷ args 1 0 [] 1
+    ∷ args 1 7 (0 ∷ []) 1
     ∷ args 1 2 (256 ∷ 0 ∷ 0 ∷ []) 1
     ∷ args 1 1 (256 ∷ 256 ∷ []) 1
     ∷ args 1 1 (3 ∷ 3 ∷ []) 0

@@ -1,5 +1,6 @@
--- The trial tickets of document 01: one table, and one theorem over it. Each entry is the smallest plan for its rows, whatever
--- the ceiling, and has the c printed there. Beside it row (6) under plan 0, and two lines of a point list.
+-- The trial tickets of document 01, and the ticket without terms of document 02, a, under each plan: one table, and one theorem over
+-- it. Each entry is the smallest plan for its rows, whatever the ceiling, and has the c printed there. Beside it row (6) under plan 0,
+-- and two lines of a point list.
 use mathlib.Core.Path.{_≡_, refl, sym, _∙_, ap}
 use mathlib.Core.Logic.{_≢_}
 use mathlib.Core.Bool.{Bool, true, _&&_}
@@ -54,6 +55,12 @@ tickets =
     ∷ ticket 2 2 single 5 (1 ∷ 2 ∷ []) []
     ∷ ticket 3 2 single 3 (1 ∷ 1 ∷ []) []
     ∷ ticket 4 2 single 1 (0 ∷ 0 ∷ []) (4 ∷ [])
+    -- no rows
+    ∷ ticket 0 2 [] 1 (0 ∷ 0 ∷ []) []
+    ∷ ticket 1 2 [] 1 (0 ∷ 0 ∷ []) []
+    ∷ ticket 2 2 [] 1 (0 ∷ 0 ∷ []) []
+    ∷ ticket 3 2 [] 1 (0 ∷ 0 ∷ []) []
+    ∷ ticket 4 2 [] 1 (0 ∷ 0 ∷ []) []
     ∷ []
 
 -- ---- what is claimed of each

@@ -76,11 +76,10 @@ map-plan-clear plan = clear 1 (ltb 4 plan || eqb plan 0) (omega arith) (clear-or
 pub axes-clear : (d : ℕ) → (badAxes d ≡ 0) ↔ ((1 ≤ d) × (d ≤ 6))
 axes-clear d = clear 2 (not (within 1 6 d)) (omega arith) (clear-beyond 1 6 d)
 
-pub length-clear : (d : ℕ) (xs : List ℤ) → (badLength d xs ≡ 0) ↔ ((length xs ≢ 0) × ((length xs % d ≡ 0) × (rowCount d xs ≤ 512)))
+pub length-clear : (d : ℕ) (xs : List ℤ) → (badLength d xs ≡ 0) ↔ ((length xs % d ≡ 0) × (rowCount d xs ≤ 512))
 length-clear d xs =
-    clear 3 (eqb (length xs) 0 || (not (eqb (length xs % d) 0) || ltb 512 (rowCount d xs))) (omega arith)
-    (clear-or (eqb (length xs) 0) (not (eqb (length xs % d) 0) || ltb 512 (rowCount d xs)) (clear-eqb (length xs) 0)
-    (clear-or (not (eqb (length xs % d) 0)) (ltb 512 (rowCount d xs)) (clear-unequal (length xs % d) 0) (clear-ltb 512 (rowCount d xs))))
+    clear 3 (not (eqb (length xs % d) 0) || ltb 512 (rowCount d xs)) (omega arith)
+    (clear-or (not (eqb (length xs % d) 0)) (ltb 512 (rowCount d xs)) (clear-unequal (length xs % d) 0) (clear-ltb 512 (rowCount d xs)))
 
 -- a component in its range
 abbrev pub Ranged : ℕ → ℤ → Type 0
@@ -140,12 +139,12 @@ module _ (plan d : ℕ) (xs : List ℤ) (none : firstOf (listConditions plan d x
   after-length : firstOf (badComponent plan xs ∷ equalRows d xs ∷ []) ≡ 0
   after-length = firstOf-none (badLength d xs) (badComponent plan xs ∷ equalRows d xs ∷ []) .0 after-axes .1
 
-  pub list-length : (length xs ≢ 0) × ((length xs % d ≡ 0) × (rowCount d xs ≤ 512))
+  pub list-length : (length xs % d ≡ 0) × (rowCount d xs ≤ 512)
   list-length = length-clear d xs .0 (firstOf-none (badLength d xs) (badComponent plan xs ∷ equalRows d xs ∷ []) .0 after-axes .0)
 
-  -- m rows of d components, and one at least
+  -- m rows of d components
   pub list-whole : length xs ≡ rowCount d xs * d
-  list-whole = omega (arith, div-add-mod' (length xs) d, list-length .1 .0)
+  list-whole = omega (arith, div-add-mod' (length xs) d, list-length .0)
 
   pub list-components : (x : ℤ) → List·Memᴰ x xs → Ranged plan x
   list-components = component-clear plan xs .0 (firstOf-none (badComponent plan xs) (equalRows d xs ∷ []) .0 after-length .0)
@@ -158,7 +157,7 @@ module _ (plan d : ℕ) (xs : List ℤ) (none : firstOf (listConditions plan d x
     some-axes = list-axes .0;
     few-axes = list-axes .1;
     whole = list-whole;
-    few-rows = list-length .1 .1;
+    few-rows = list-length .1;
     small = small-at xs (λ x m. list-components x m .0);
     unsigned = λ l k i. row-sign k (λ x m. list-components x (component-in d (rowCount d xs) xs k x i m) .1 l);
     different = list-rows;
@@ -186,3 +185,9 @@ pub valid-pair : (d n : ℕ) (z : List ℕ) → firstOf (pairConditions d n z) �
 valid-pair d n z e =
     let r = firstOf-none (badModulus n) (badVector d n z ∷ []) .0 e in
     (valid-modulus n (r .0), valid-vector d n z .0 (firstOf-none (badVector d n z) [] .0 (r .1) .0))
+
+-- and neither 6 nor 7 applies to one
+pub pair-none : (d n : ℕ) (z : List ℕ) → ValidModulus n → InRange n d z → firstOf (pairConditions d n z) ≡ 0
+pair-none d n z m r =
+    firstOf-none (badModulus n) (badVector d n z ∷ []) .1
+    (modulus-clear n .1 (m .low, m .high), firstOf-none (badVector d n z) [] .1 (valid-vector d n z .1 r, refl))

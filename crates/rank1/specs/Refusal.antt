@@ -47,9 +47,9 @@ badMapPlan plan = refuse 1 (ltb 4 plan || eqb plan 0)
 abbrev pub badAxes : ℕ → ℕ
 badAxes d = refuse 2 (not (within 1 6 d))
 
--- 3: list empty, length no multiple of d, or more than 512 rows
+-- 3: length no multiple of d, or more than 512 rows (02, a: a list of no rows is valid)
 abbrev pub badLength : ℕ → List ℤ → ℕ
-badLength d xs = refuse 3 (eqb (length xs) 0 || (not (eqb (length xs % d) 0) || ltb 512 (rowCount d xs)))
+badLength d xs = refuse 3 (not (eqb (length xs % d) 0) || ltb 512 (rowCount d xs))
 
 -- 4: a component outside its range
 abbrev pub badComponent : ℕ → List ℤ → ℕ

@@ -107,14 +107,11 @@ pub fn axes_refusal(d: usize) -> u8
     if 6 < d { 2 } else { 0 }
 }
 
-// Condition 3: no rows, a length that is no multiple of d, or more than 512 rows.
+// Condition 3: a length that is no multiple of d, or more than 512 rows.
 fn length_refusal(d: usize, rows: &[i16]) -> u8
     requires { ⌜ 1 ≤ d ⌝ }
     ensures { λ r. ⌜ r ≡ badLength d (now (rows .entry)) ⌝ }
 {
-    if rows.len() == 0 {
-        return 3;
-    }
     if rows.len() % d != 0 {
         return 3;
     }

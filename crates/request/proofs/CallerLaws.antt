@@ -23,7 +23,7 @@ use Rattle.request.proofs.SearchedLaws.{wrote-stands, StandsFor}
 module _ {r : Reading} {rows : List ℤ} {plan d m ceiling : ℕ} (read : RowsRead r rows plan d m ceiling) where
   -- no more numbers than there are places
   pub rows-fit : m * d ≤ 3072
-  rows-fit = omega (arith, mul-le-mul (read .head .rows .1) (read .head .axes .1))
+  rows-fit = omega (arith, mul-le-mul (read .head .rows) (read .head .axes .1))
 
   pub rows-long : length (take (m * d) rows) ≡ m * d
   rows-long = ap length (read .taken) ∙ length-map (read .run) clamped ∙ read .size

@@ -1,6 +1,7 @@
 -- Laws of the text form. For readers: the form is exact, one answer follows, one outcome of a call, and examples.
 pub mod RequestForm
 pub mod AnswerLaws
+pub mod NoTerms
 pub mod ReplyLaws
 pub mod ReadingExamples
 pub mod AnswerExamples

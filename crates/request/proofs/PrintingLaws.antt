@@ -214,7 +214,7 @@ module _ (plan d ceiling : ℕ) (ks : List (List ℤ)) (w : Writable plan d ceil
   fields-small =
       all-cons (λ x. x < 1000000) plan (d ∷ length ks ∷ ceiling ∷ []) (omega (arith, w .plans))
       (all-cons (λ x. x < 1000000) d (length ks ∷ ceiling ∷ []) (omega (arith, w .axes .1))
-      (all-cons (λ x. x < 1000000) (length ks) (ceiling ∷ []) (omega (arith, w .count .1))
+      (all-cons (λ x. x < 1000000) (length ks) (ceiling ∷ []) (omega (arith, w .count))
       (all-cons (λ x. x < 1000000) ceiling [] (w .bound) (λ y m. absurd (List·Memᴰ·not-nil m)))))
 
   -- no more bytes than a request may have
@@ -225,5 +225,5 @@ module _ (plan d ceiling : ℕ) (ks : List (List ℤ)) (w : Writable plan d ceil
         arith,
         line-size readNumber numberText (λ x. x < 1000000) number-fields headFields (omega arith) fields-small,
         rows-size d ks (w .axes .0) (w .axes .1) (w .rows),
-        w .count .1,
+        w .count,
       ))

@@ -1,5 +1,5 @@
 -- What a text asks, in bounds (reading-bounded): a refusal's number is at most 12; a request has a plan from 0 to 4, 1 to 6 axes, and
--- a run of m × d numbers with m from 1 to 512. And a text that asks for a plan, taken apart into its lines (lines-of).
+-- a run of m × d numbers with m from 0 to 512. And a text that asks for a plan, taken apart into its lines (lines-of).
 use mathlib.Core.Path.{_≡_, refl, sym, _∙_, ap, subst}
 use mathlib.Core.Bool.{Bool, true, false, cond, not}
 use mathlib.Core.List.{List, [], _∷_}
@@ -98,18 +98,18 @@ within-holds number low high x h e =
 -- the number is at most 12
 head-small : (plan d m : ℕ) → headRefusal plan d m ≤ 12
 head-small plan d m =
-    three-le 12 (badPlan plan) (badAxes d) (refuse 3 (not (within 1 512 m)))
+    three-le 12 (badPlan plan) (badAxes d) (refuse 3 (ltb 512 m))
     (refuse-le 12 1 (ltb 4 plan) (omega arith)) (refuse-le 12 2 (not (within 1 6 d)) (omega arith))
-    (refuse-le 12 3 (not (within 1 512 m)) (omega arith))
+    (refuse-le 12 3 (ltb 512 m) (omega arith))
 
 -- none of the refusals applies: line 1 is in range
 pub head-in : (plan d m : ℕ) → headRefusal plan d m ≡ 0 → HeadIn plan d m
 head-in plan d m e =
-    let n = three-none (badPlan plan) (badAxes d) (refuse 3 (not (within 1 512 m))) e in
+    let n = three-none (badPlan plan) (badAxes d) (refuse 3 (ltb 512 m)) e in
     record {
       plans = ltb-false 4 plan (refuse-none 1 (ltb 4 plan) (omega arith) .0 (n .0));
       axes = within-holds 2 1 6 d (omega arith) (n .1);
-      rows = within-holds 3 1 512 m (omega arith) (n .2);
+      rows = ltb-false 512 m (refuse-none 3 (ltb 512 m) (omega arith) .0 (n .2));
     }
 
 -- ---- what a text asks

@@ -4,7 +4,7 @@ use mathlib.Core.Path.{_≡_, refl, sym, _∙_, ap, subst}
 use mathlib.Core.Logic.{inl, inr, _≢_}
 use mathlib.Core.List.{List, [], _∷_, _++_, map}
 use Prim.Native.Nat.{ℕ, zero, suc, _*_, _%_, _≤_}
-use native.Mathlib.Nat.{zero-add, mul-mod-left, mul-pos}
+use native.Mathlib.Nat.{zero-add, mul-mod-left}
 use native.Mathlib.Omega.{arith}
 use lib.IntN.{ℤ, pos}
 use lib.ListN.{length, drop, length-append, length-drop}
@@ -12,9 +12,9 @@ use Rattle.rank1.specs.Index.{rowCount, indexList}
 use Rattle.rank1.specs.Rule.{Admissible}
 use Rattle.rank1.specs.Search.{Smallest}
 use Rattle.rank1.specs.Sums.{residueMap}
-use Rattle.rank1.specs.Refusal.{firstOf, badPlan, badMapPlan, badAxes, badLength, badComponent, equalRows, badModulus, badVector, badPlaces, inadmissible, listConditions, pairConditions, tableConditions, searchRefusal, mapRefusal}
+use Rattle.rank1.specs.Refusal.{firstOf, badPlan, badMapPlan, badAxes, badLength, badComponent, equalRows, badModulus, badPlaces, inadmissible, listConditions, pairConditions, tableConditions, searchRefusal, mapRefusal}
 use Rattle.rank1.proofs.RefusalLaws.{firstOf-append, firstOf-skip, firstOf-none, firstOf-none-append}
-use Rattle.rank1.proofs.ValidLaws.{plan-clear, map-plan-clear, axes-clear, length-clear, modulus-clear, valid-vector, places-clear, rule-clear}
+use Rattle.rank1.proofs.ValidLaws.{plan-clear, map-plan-clear, axes-clear, length-clear, modulus-clear, pair-none, places-clear, rule-clear}
 use Rattle.planner.specs.declared.Plan.{Plan}
 use Rattle.planner.specs.declared.Plan.the-variants.{Found, Refused}
 use Rattle.planner.specs.Answer.{ResidueMapCall, refusalNumber, SmallestOrNone, SmallestSearch}
@@ -38,10 +38,7 @@ module _ (plan d m : ℕ) (xs : List ℤ) (head : HeadIn plan d m) (size : lengt
   -- 3 does not apply
   length-none : badLength d xs ≡ 0
   length-none =
-      length-clear d xs .1 (
-        (λ e. let some = mul-pos (head .rows .0) (head .axes .0) in omega (arith, size)),
-        (ap (λ (k : ℕ). k % d) size ∙ mul-mod-left m d, omega (arith, request-rows, head .rows .1)),
-      )
+      length-clear d xs .1 (ap (λ (k : ℕ). k % d) size ∙ mul-mod-left m d, omega (arith, request-rows, head .rows))
 
   -- of the others 4, 5 and 6 are left
   search-refusal : (ceiling places : ℕ) → places ≡ d → searchRefusal plan d xs ceiling places ≡ requestRefusal plan d ceiling xs
@@ -75,7 +72,7 @@ module _ (plan d ceiling : ℕ) (ks : List (List ℤ)) (before after : List ℕ)
   found-smallest refusal (Refused k) n e p = absurd (let x : _≡_ {A = ℕ} 0 1 = cc in omega arith)
 
 -- the plan's text answers
-plan-answers : (plan d ceiling : ℕ) (ks : List (List ℤ)) (after : List ℕ) (refusal n : ℕ) (a : List ℕ) → refusal ≡ 0 → Smallest (Admissible plan ks) d ceiling n after → a ≡ planText plan n after ks → RefusalTextOr refusal a (PlanOrNine plan d ceiling ks a)
+pub plan-answers : (plan d ceiling : ℕ) (ks : List (List ℤ)) (after : List ℕ) (refusal n : ℕ) (a : List ℕ) → refusal ≡ 0 → Smallest (Admissible plan ks) d ceiling n after → a ≡ planText plan n after ks → RefusalTextOr refusal a (PlanOrNine plan d ceiling ks a)
 plan-answers plan d ceiling ks after zero n a e s t = inl (record { modulus = n; vector = after; smallest = s; text = t })
 plan-answers plan d ceiling ks after (suc i) n a e s t = absurd (omega arith)
 
@@ -183,10 +180,7 @@ module _ {plan d m : ℕ} {xs : List ℤ} {ceiling : ℕ} {after : List ℕ} {r 
                     firstOf-none (badComponent plan xs) (equalRows d xs ∷ []) .1 (clear .0, firstOf-none (equalRows d xs) [] .1 (clear .1, refl)),
                   ),
                 ),
-                firstOf-none (badModulus n) (badVector d n after ∷ []) .1 (
-                  modulus-clear n .1 (smallest .low, small),
-                  firstOf-none (badVector d n after) [] .1 (valid-vector d n after .1 (smallest .first .ranged), refl),
-                ),
+                pair-none d n after (record { low = smallest .low; high = small }) (smallest .first .ranged),
               ),
             ),
             firstOf-none bad-room (rule ∷ []) .1 (

@@ -72,7 +72,7 @@ RunIs text p base old new (nexts.At at) = RunGot text p base old new at
 pub record HeadIn (plan d m : ℕ) : Type 0 where
   pub plans : plan ≤ 4
   pub axes : (1 ≤ d) × (d ≤ 6)
-  pub rows : (1 ≤ m) × (m ≤ 512)
+  pub rows : m ≤ 512
 
 -- a request, whose rows stand, clamped, in the first m × d places
 pub record RowsRead (r : Reading) (rows : List ℤ) (plan d m ceiling : ℕ) : Type 0 where

@@ -37,6 +37,6 @@ pub record WritableRow (d : ℕ) (k : List ℤ) : Type 0 where
 pub record Writable (plan d ceiling : ℕ) (ks : List (List ℤ)) : Type 0 where
   pub plans : plan ≤ 4
   pub axes : (1 ≤ d) × (d ≤ 6)
-  pub count : (1 ≤ length ks) × (length ks ≤ 512)
+  pub count : length ks ≤ 512
   pub rows : (k : List ℤ) → List·Memᴰ k ks → WritableRow d k
   pub bound : ceiling < 1000000

@@ -1,11 +1,11 @@
 -- How a request is read: line 1 with plan, d, m and N, then m lines of d fields, and nothing after them.
-use mathlib.Core.Bool.{cond, not}
+use mathlib.Core.Bool.{cond}
 use mathlib.Core.List.{List, [], _∷_, _++_}
 use Prim.Native.Nat.{ℕ, zero, suc}
 use lib.Dec.{eqb, ltb}
 use lib.IntN.{ℤ, pos, negℤ}
 use lib.ListN.{length, drop}
-use Rattle.rank1.specs.Refusal.{within, refuse, firstOf, badPlan, badAxes}
+use Rattle.rank1.specs.Refusal.{refuse, firstOf, badPlan, badAxes}
 use Rattle.request.specs.Text.{space, newline, minus, digits, decimal, isField}
 
 -- what stands at the front of a text, with the text behind it; or it is out of form
@@ -67,9 +67,9 @@ afterRows plan d ceiling bad = refused 12
 afterRows plan d ceiling (got run []) = request plan d ceiling run
 afterRows plan d ceiling (got run (b ∷ s)) = refused 12
 
--- 1, 2 and m not 1 to 512 (3), before the rest is read
+-- 1, 2 and m not 0 to 512 (3), before the rest is read
 abbrev pub headRefusal : ℕ → ℕ → ℕ → ℕ
-headRefusal plan d m = firstOf (badPlan plan ∷ badAxes d ∷ refuse 3 (not (within 1 512 m)) ∷ [])
+headRefusal plan d m = firstOf (badPlan plan ∷ badAxes d ∷ refuse 3 (ltb 512 m) ∷ [])
 
 abbrev pub unless : ℕ → Reading → Reading
 unless zero r = r

@@ -240,7 +240,7 @@ pub(crate) fn read_request(text: &[u8], rows: &mut [i16]) -> Asked
     read_body(text, at, plan as u8, d as usize, m as usize, ceiling, rows)
 }
 
-// 1, 2, and 3 for m not 1 to 512.
+// 1, 2, and 3 for m not 0 to 512.
 fn head_refusal(plan: u32, d: u32, m: u32) -> u8
     ensures { λ r. ⌜ r ≡ headRefusal plan d m ⌝ }
 {
@@ -252,9 +252,6 @@ fn head_refusal(plan: u32, d: u32, m: u32) -> u8
     }
     if 6 < d {
         return 2;
-    }
-    if m < 1 {
-        return 3;
     }
     if 512 < m { 3 } else { 0 }
 }

@@ -1,4 +1,4 @@
-//! A planner written from document 01's words alone, to hold the library against. It shares nothing with the crates and knows no
+//! A planner written from the words of documents 01 and 02 alone, to hold the library against. It shares nothing with the crates and knows no
 //! shortcut: every residue is a sum of products, every rule goes pair by pair, and a search tries every vector.
 //!
 //! A call answers with what it would write, or with the number of the refusal.
@@ -86,7 +86,7 @@ fn refuse(number: u8, applies: bool) -> Result<(), u8> {
 fn the_list(plan: u8, zero_allowed: bool, d: usize, rows: &[i16]) -> Result<Vec<Vec<i64>>, u8> {
     refuse(1, plan > 4 || (plan == 0 && !zero_allowed))?;
     refuse(2, !(1..=6).contains(&d))?;
-    refuse(3, rows.is_empty() || rows.len() % d != 0 || rows.len() / d > 512)?;
+    refuse(3, rows.len() % d != 0 || rows.len() / d > 512)?;
     let least = if plan >= 2 { 0 } else { -255 };
     refuse(4, rows.iter().any(|x| !(least..=255).contains(x)))?;
     let list: Vec<Vec<i64>> = rows.chunks(d).map(|k| k.iter().map(|&x| i64::from(x)).collect()).collect();

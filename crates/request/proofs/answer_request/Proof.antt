@@ -100,7 +100,7 @@ entry c = start-of (search-of (line-of c))
 
 -- 2 × m of the places are lent
 pairs-size : (s : tie.Start) → length (take (2 * s .args .m) many) ≡ 2 * s .args .m
-pairs-size s = length-take-le (2 * s .args .m) many (omega (arith, s .pre .0 .rows .1))
+pairs-size s = length-take-le (2 * s .args .m) many (omega (arith, s .pre .0 .rows))
 
 -- what is left in them
 abbrev pairs-of : tie.After-residue-map → List ℕ
@@ -215,7 +215,7 @@ array-share-prefix-pairs : tie.Need-array-share-prefix-pairs
 array-share-prefix-pairs c =
     let map-call = c .before .before in
     let s = entry map-call in
-    omega (arith, s .pre .0 .rows .1, length-front many (pairs-of map-call) (2 * s .args .m) (map-kept map-call))
+    omega (arith, s .pre .0 .rows, length-front many (pairs-of map-call) (2 * s .args .m) (map-kept map-call))
 
 slice-aggregate-write-map : tie.Need-slice-aggregate-write-map
 slice-aggregate-write-map c = sym (lent-pairs-size (c .before .before .before))
@@ -227,7 +227,7 @@ write-map-requires c κs =
     let call = search-of line in
     let s = start-of call in
     let end = first-line-end (searched call) (found-of line) (s .args .buffer .now) (line .write-plan .last .0) (line .write-plan .result) (first-line line) in
-    (lent-pairs-size map-call, omega (arith, end, s .pre .0 .rows .1, s .pre .2, line .write-plan .kept .0))
+    (lent-pairs-size map-call, omega (arith, end, s .pre .0 .rows, s .pre .2, line .write-plan .kept .0))
 
 same-length-3 : tie.Need-same-length-3
 same-length-3 c = search needs

@@ -64,8 +64,8 @@ head-end text fields k place so-far l = record {
     four (a ∷ b ∷ c ∷ d ∷ x ∷ xs) e = absurd (omega arith)
 
 -- ---- 1, 2 and 3 before the rest is read, by the three tests
-pub head-is : (plan d m : ℕ) (a b e : Bool) → ltb 4 plan ≡ a → within 1 6 d ≡ b → within 1 512 m ≡ e → headRefusal plan d m ≡ firstOf (refuse 1 a ∷ refuse 2 (not b) ∷ refuse 3 (not e) ∷ [])
+pub head-is : (plan d m : ℕ) (a b e : Bool) → ltb 4 plan ≡ a → within 1 6 d ≡ b → ltb 512 m ≡ e → headRefusal plan d m ≡ firstOf (refuse 1 a ∷ refuse 2 (not b) ∷ refuse 3 e ∷ [])
 head-is plan d m a b e p q r =
-    ap (λ (t : Bool). firstOf (refuse 1 t ∷ badAxes d ∷ refuse 3 (not (within 1 512 m)) ∷ [])) p
-    ∙ ap (λ (t : Bool). firstOf (refuse 1 a ∷ refuse 2 (not t) ∷ refuse 3 (not (within 1 512 m)) ∷ [])) q
-    ∙ ap (λ (t : Bool). firstOf (refuse 1 a ∷ refuse 2 (not b) ∷ refuse 3 (not t) ∷ [])) r
+    ap (λ (t : Bool). firstOf (refuse 1 t ∷ badAxes d ∷ refuse 3 (ltb 512 m) ∷ [])) p
+    ∙ ap (λ (t : Bool). firstOf (refuse 1 a ∷ refuse 2 (not t) ∷ refuse 3 (ltb 512 m) ∷ [])) q
+    ∙ ap (λ (t : Bool). firstOf (refuse 1 a ∷ refuse 2 (not b) ∷ refuse 3 t ∷ [])) r

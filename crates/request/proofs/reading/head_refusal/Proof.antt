@@ -29,21 +29,14 @@ returns-4 c =
     let args = c .before .before .before .before .args in
     let named = le-ltb 4 (args .plan) (c .before .before .before .if1 .left) in
     let axes = within-is 1 6 (args .d) (c .before .before .if2 .left) (c .before .if3 .left) in
-    sym (head-is (args .plan) (args .d) (args .m) false true false named axes (not-within-below 1 512 (args .m) (c .if4 .taken)))
+    sym (head-is (args .plan) (args .d) (args .m) false true true named axes (lt-ltb 512 (args .m) (c .if4 .taken)))
 
 returns-5 : tie.Need-returns-5
 returns-5 c =
-    let args = c .before .before .before .before .before .args in
-    let named = le-ltb 4 (args .plan) (c .before .before .before .before .if1 .left) in
-    let axes = within-is 1 6 (args .d) (c .before .before .before .if2 .left) (c .before .before .if3 .left) in
-    sym (head-is (args .plan) (args .d) (args .m) false true false named axes (not-within-above 1 512 (args .m) (c .before .if4 .left) (c .if5 .taken)))
-
-returns-6 : tie.Need-returns-6
-returns-6 c =
-    let args = c .before .before .before .before .before .args in
-    let named = le-ltb 4 (args .plan) (c .before .before .before .before .if1 .left) in
-    let axes = within-is 1 6 (args .d) (c .before .before .before .if2 .left) (c .before .before .if3 .left) in
-    sym (head-is (args .plan) (args .d) (args .m) false true true named axes (within-is 1 512 (args .m) (c .before .if4 .left) (c .if5 .left)))
+    let args = c .before .before .before .before .args in
+    let named = le-ltb 4 (args .plan) (c .before .before .before .if1 .left) in
+    let axes = within-is 1 6 (args .d) (c .before .before .if2 .left) (c .before .if3 .left) in
+    sym (head-is (args .plan) (args .d) (args .m) false true false named axes (le-ltb 512 (args .m) (c .if4 .left)))
 
 pub head-refusal-spec : {M : Type 1} → statement M
-head-refusal-spec = tie.close (tie.spec returns returns-2 returns-3 returns-4 returns-5 returns-6)
+head-refusal-spec = tie.close (tie.spec returns returns-2 returns-3 returns-4 returns-5)

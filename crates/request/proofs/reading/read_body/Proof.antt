@@ -26,7 +26,7 @@ read-rows-requires : tie.Need-read-rows-requires
 read-rows-requires c κs =
     let start = c .before .before in
     let pre = start .pre in
-    (pre .0, pre .1 .axes .0, pre .1 .axes .1, pre .1 .rows .1, omega (arith, mul-le-mul (pre .1 .rows .1) (pre .1 .axes .1), pre .2))
+    (pre .0, pre .1 .axes .0, pre .1 .axes .1, pre .1 .rows, omega (arith, mul-le-mul (pre .1 .rows) (pre .1 .axes .1), pre .2))
 
 enum-known-next : tie.Need-enum-known-next
 enum-known-next c = search needs

@@ -67,7 +67,7 @@ cast-read-body-2 : tie.Need-cast-read-body-2
 cast-read-body-2 c = omega (arith, clear c .axes .1)
 
 cast-read-body-3 : tie.Need-cast-read-body-3
-cast-read-body-3 c = omega (arith, clear c .rows .1)
+cast-read-body-3 c = omega (arith, clear c .rows)
 
 read-body-requires : tie.Need-read-body-requires
 read-body-requires c κs =
