@@ -32,8 +32,13 @@ module _ (plan d n : ℕ) (plans : plan ≤ 4) (axes : (1 ≤ d) × (d ≤ 6)) (
   listed : firstOf (listConditions plan d []) ≡ 0
   listed = no-rows-valid plan d (axes .0) (axes .1)
 
+  -- what holds of the rule for the list of no rows holds of that for the run of no numbers
+  of-run : (P : Rule → Type 0) → P (Admissible plan []) → P (Admissible plan (indexList d []))
+  of-run P p = subst (λ (ks : List (List ℤ)). P (Admissible plan ks)) (sym (no-rows d)) p
+
   -- ---- the searches: n is the modulus, or the ceiling
   module _ (before after : List ℕ) (r : Plan) (room : length before ≡ d) where
+    -- none of 1 to 6 and 8 applies
     none : searchRefusal plan d [] n (length before) ≡ 0
     unfolding searchRefusal
     none =
@@ -46,34 +51,30 @@ module _ (plan d n : ℕ) (plans : plan ≤ 4) (axes : (1 ≤ d) × (d ≤ 6)) (
           firstOf-none (badPlaces (length before) d) [] .1 (places-clear (length before) d .1 room, refl),
         )
 
-    -- what holds of the list of no rows, of the run of no numbers
-    of-run : (P : Rule → Type 0) → P (Admissible plan []) → P (Admissible plan (indexList d []))
-    of-run P p = subst (λ (ks : List (List ℤ)). P (Admissible plan ks)) (sym (no-rows d)) p
-
-    -- the contract's alternative where no condition applies
-    answers : (refusal : ℕ) (after : List ℕ) (r : Plan) {A : Type 0} → refusal ≡ 0 → A → RefusedOr refusal before after r A
-    answers refusal after r {A} e a = subst (λ (k : ℕ). RefusedOr k before after r A) (sym e) a
+    -- where none applies, the promise is what an answer says: that the zero vector was found with a modulus
+    zeros-found : (found : ℕ) {A : Type 0} → A → RefusedOr (searchRefusal plan d [] n (length before)) before (zeroVector d) (Found found) A
+    zeros-found found {A} a = subst (λ (k : ℕ). RefusedOr k before (zeroVector d) (Found found) A) (sym none) a
 
     pub vector-no-rows : VectorSearch plan d [] n before after r → Same r (Found n) after (zeroVector d)
     vector-no-rows told =
         search-vector-determined plan d [] n before after (zeroVector d) r (Found n) told
-        (answers (searchRefusal plan d [] n (length before)) (zeroVector d) (Found n) none
+        (zeros-found n
         (refl, of-run (λ rule. First rule d n (zeroVector d)) (no-rows-first plan d plans n (modulus .low))))
 
     pub smallest-no-rows : SmallestSearch plan d [] n before after r → Same r (Found 1) after (zeroVector d)
     smallest-no-rows told =
         search-smallest-determined plan d [] n before after (zeroVector d) r (Found 1) told
-        (answers (searchRefusal plan d [] n (length before)) (zeroVector d) (Found 1) none
+        (zeros-found 1
         (of-run (λ rule. Smallest rule d n 1 (zeroVector d)) (no-rows-smallest plan d plans n (modulus .low))))
 
   -- ---- the calls that take a pair
   module _ (z : List ℕ) (vector : InRange n d z) where
-    -- none of 6 and 7 applies
+    -- neither 6 nor 7 applies
     paired : firstOf (pairConditions d n z) ≡ 0
     paired = pair-none d n z modulus vector
 
     rule : Admissible plan (indexList d []) n (map pos z)
-    rule = subst (λ (ks : List (List ℤ)). Admissible plan ks n (map pos z)) (sym (no-rows d)) (no-rows-admissible plan n (map pos z) plans)
+    rule = of-run (λ R. R n (map pos z)) (no-rows-admissible plan n (map pos z) plans)
 
     check-none : checkRefusal plan d [] n z ≡ 0
     unfolding checkRefusal
