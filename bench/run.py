@@ -104,8 +104,8 @@ def full_tables():
     yield Request("two axes, rows (a, a² mod 251)", 4, curve[:80])
     for plan in (2, 3, 4):
         yield Request("two axes, main effects odd to 159", plan, odd_cross)
-    yield Request("four axes, rows from 1 to (4, 4, 4, 5), ceiling 340", 2, wide_block(4, 4, 4, 5), 340)
     yield Request("four axes, rows from 1 to (4, 4, 4, 5), ceiling 340", 4, wide_block(4, 4, 4, 5), 340)
+    yield Request("six axes, rows from 1 to (2, 2, 2, 2, 2, 3), ceiling 200", 3, wide_block(2, 2, 2, 2, 2, 3), 200)
     yield Request("six axes, rows from 1 to (2, 2, 2, 2, 2, 3), ceiling 100", 4, wide_block(2, 2, 2, 2, 2, 3), 100)
     yield Request("six axes, rows (a, 1, 1, 1, 1, 1), a to 255", 4, [(a, 1, 1, 1, 1, 1) for a in range(256)])
     yield Request("six axes, rows from 1 to (8, 8, 8, 1, 1, 1), ceiling 516", 4, wide_block(8, 8, 8, 1, 1, 1), 516)
@@ -275,7 +275,7 @@ def machine():
 
 def page(before, tables):
     requested, full, forced, by_rows, by_axes = tables
-    earlier = ["`before` is the program before the search by differences (commit 8411f97), stopped after %d s; gain is its time over plan's." % LIMIT]
+    earlier = ["`before` is the program before request b (commit da43d33), which starts at the number of rows, stopped after %d s; gain is its time over plan's." % LIMIT]
     return "\n".join(
         ["# Speed", "", "Made by `python3 bench/run.py --write` on: %s." % machine(), "",
          "Times are of whole processes, the least of 5 turns below half a second, of 3 below five, else of 1; in a turn the programs run one",

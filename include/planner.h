@@ -10,6 +10,7 @@
  *                   rows may then be NULL
  *   n               the modulus, 1 to 8192
  *   z, z_len        the generating vector: d numbers from 0 to n - 1, so z_len is d
+ *   tally           the record of a list (planner_tally, below), passed by value
  * A length counts elements, not bytes.
  *
  * The answer
@@ -18,7 +19,8 @@
  *
  *    1  plan above 4; for map, spread and gather also plan 0
  *    2  d not 1 to 6
- *    3  rows_len no multiple of d, or more than 512 rows
+ *    3  rows_len no multiple of d, or more than 512 rows; add_row: also a row not d long, or a record that is not the list's;
+ *       least_modulus: a record with m over 512, size over 64 * m, or the zero row at m = 0
  *    4  a component of a row outside its range
  *    5  two equal rows
  *    6  n, or the ceiling, not 1 to 8192
@@ -30,9 +32,9 @@
  *
  * What the caller owes
  *   Every pointer is aligned and points to as many elements as its length says; one whose length is 0 is not followed and may be
- *   NULL. The pointers without a length, yes and found, are not NULL. What a call may write overlaps nothing else that it is passed,
- *   and nothing else touches the memory until it returns. A search takes less than 1.5 MiB of stack, any other call less than 256 KiB.
- *   The calls keep no state: different threads may call at once.
+ *   NULL. The pointers without a length, yes, found, m, size and zero, are not NULL and point to one element each. What a call may
+ *   write overlaps nothing else that it is passed, and nothing else touches the memory until it returns. A search takes less than
+ *   1.5 MiB of stack, any other call less than 256 KiB. The calls keep no state: different threads may call at once.
  */
 #ifndef PLANNER_H
 #define PLANNER_H
@@ -104,6 +106,52 @@ uint8_t planner_search_vector(uint8_t plan, size_t d, const int16_t *rows, size_
  */
 uint8_t planner_search_smallest(uint8_t plan, size_t d, const int16_t *rows, size_t rows_len, uint16_t ceiling, uint16_t *z,
                                 size_t z_len, uint16_t *found);
+
+/*
+ * The running tally: which moduli are hopeless is known from the record of a list, while its rows are still being typed.
+ *   m     the number of rows
+ *   size  the number of different mirrors of all rows; for plans 0 and 1 it is m
+ *   zero  whether the zero row is in: 0 is no, any other number is yes; the calls write 1 or 0
+ * A list of no rows has the record {0, 0, 0}.
+ */
+typedef struct planner_tally {
+    uint32_t m;
+    uint32_t size;
+    uint8_t zero;
+} planner_tally;
+
+/*
+ * The record of a whole list, counted at once.
+ * Refusals: 1 2 3 4 5.
+ * Writes, where it returns 0: *m, *size and *zero. They may be the fields of one planner_tally.
+ */
+uint8_t planner_tally_list(uint8_t plan, size_t d, const int16_t *rows, size_t rows_len, uint32_t *m, uint32_t *size,
+                           uint8_t *zero);
+
+/*
+ * One row more: from a list, its record and a row, the record of the longer list, which is the list and then the row. No list is
+ * written: the caller appends the row himself.
+ * row: d numbers.
+ * Refusals: 1 2, 3 where rows_len is no multiple of d, row_len is not d, or there are more than 512 rows with the new one, 4 5 over
+ * the longer list, and then again 3 where the record is not the one that planner_tally_list gives for the list.
+ * Writes, where it returns 0: *m, *size and *zero. They may be the fields of the struct whose value was passed.
+ */
+uint8_t planner_add_row(uint8_t plan, size_t d, const int16_t *rows, size_t rows_len, planner_tally tally, const int16_t *row,
+                        size_t row_len, uint32_t *m, uint32_t *size, uint8_t *zero);
+
+/*
+ * The least modulus worth trying, from the plan and the record alone:
+ *   plan 0         2 if a row other than the zero row is held, else 1
+ *   plans 1 and 4  the larger of 1 and m
+ *   plan 2         size, plus 1 without the zero row
+ *   plan 3         2 m - 1 with the zero row, else 2 m + 1
+ * Where the record is that of a list, no smaller modulus has an admissible vector for this list, and the search for the smallest
+ * plan starts here. The number goes up to 32,769; above 8192 it says that no modulus from 1 to 8192 works. A record that no list has
+ * may pass the refusals: its number says nothing, and may be 0 (plan 2, size 0 with the zero row in, m at least 1).
+ * Refusals: 1, 3 where m is over 512, size is over 64 * m, or the zero row is in at m = 0.
+ * Writes, where it returns 0: *found, the modulus.
+ */
+uint8_t planner_least_modulus(uint8_t plan, planner_tally tally, uint16_t *found);
 
 #ifdef __cplusplus
 }

@@ -1,6 +1,6 @@
 /*
- * Every call of the header, on document 01's small examples, and on the list of no rows with NULL where a length is 0. It prints the
- * calls that answer otherwise; none where all is well.
+ * Every call of the header, on document 01's small examples, on the list of no rows with NULL where a length is 0, and on records
+ * passed by value. It prints the calls that answer otherwise; none where all is well.
  */
 #include <stdio.h>
 #include <string.h>
@@ -17,16 +17,27 @@ static void expect(const char *call, int holds)
     }
 }
 
+static int holds(planner_tally t, uint32_t m, uint32_t size, uint8_t zero)
+{
+    return t.m == m && t.size == size && t.zero == zero;
+}
+
 /* a list of no rows: every pair is admissible, the map and the terms have no places, the smallest plan is n = 1 with zeros */
 static void expect_no_rows(uint8_t plan)
 {
+    const int16_t zero_row[2] = {0, 0};
     const uint16_t pair[2] = {1, 2};
     const int64_t zeros[3] = {0, 0, 0};
     int64_t sums[3] = {5, 5, 5};
     uint16_t n = 9;
     uint16_t z[2] = {9, 9};
     uint8_t yes = 7;
+    planner_tally t = {9, 9, 9};
 
+    expect("planner_tally_list", planner_tally_list(plan, 2, NULL, 0, &t.m, &t.size, &t.zero) == 0 && holds(t, 0, 0, 0));
+    expect("planner_least_modulus", planner_least_modulus(plan, t, &n) == 0 && n == 1);
+    expect("planner_add_row", planner_add_row(plan, 2, NULL, 0, t, NULL, 0, &t.m, &t.size, &t.zero) == 3 && holds(t, 0, 0, 0));
+    expect("planner_add_row", planner_add_row(plan, 2, NULL, 0, t, zero_row, 2, &t.m, &t.size, &t.zero) == 0 && holds(t, 1, 1, 1));
     expect("planner_check", planner_check(plan, 2, NULL, 0, 3, pair, 2, &yes) == 0 && yes == 1);
     expect("planner_search_vector", planner_search_vector(plan, 2, NULL, 0, 8, z, 2, &n) == 0 && n == 8 && z[0] == 0 && z[1] == 0);
     expect("planner_search_smallest", planner_search_smallest(plan, 2, NULL, 0, 8, z, 2, &n) == 0 && n == 1 && z[0] == 0 && z[1] == 0);
@@ -38,6 +49,78 @@ static void expect_no_rows(uint8_t plan)
            planner_spread(plan, 2, NULL, 0, 3, pair, 2, NULL, 0, sums, 3) == 0 && memcmp(sums, zeros, sizeof zeros) == 0);
     expect("planner_gather", planner_gather(plan, 2, NULL, 0, 3, pair, 2, zeros, 3, NULL, 0) == 0);
     expect("planner_point_list", planner_point_list(plan, 2, 3, pair, 2, NULL, 0) == 8);
+}
+
+/* the record of (0, 0), (1, 0), (1, 1), row by row and at once, and the bounds from it; the mirrors are 1, 2 and 4 */
+static void expect_tally(uint8_t plan)
+{
+    const int16_t rows[6] = {0, 0, 1, 0, 1, 1};
+    const uint32_t sizes[2][3] = {{1, 2, 3}, {1, 3, 7}};
+    const uint16_t bounds[5][3] = {{1, 2, 2}, {1, 2, 3}, {1, 3, 7}, {1, 3, 5}, {1, 2, 3}};
+    uint16_t n = 9;
+    planner_tally t;
+    planner_tally whole = {9, 9, 9};
+
+    /* the bytes behind the flag are the struct's own, and no part of the record */
+    memset(&t, 0xff, sizeof t);
+    t.m = 0;
+    t.size = 0;
+    t.zero = 0;
+    for (uint32_t i = 0; i < 3; i++) {
+        expect("planner_add_row", planner_add_row(plan, 2, rows, 2 * i, t, rows + 2 * i, 2, &t.m, &t.size, &t.zero) == 0);
+        expect("planner_add_row", holds(t, i + 1, sizes[plan >= 2][i], 1));
+        expect("planner_least_modulus", planner_least_modulus(plan, t, &n) == 0 && n == bounds[plan][i]);
+    }
+    expect("planner_tally_list", planner_tally_list(plan, 2, rows, 6, &whole.m, &whole.size, &whole.zero) == 0);
+    expect("planner_tally_list", holds(whole, t.m, t.size, t.zero));
+
+    /* any number but 0 is yes */
+    for (unsigned flag = 1; flag <= 255; flag++) {
+        planner_tally given = {3, t.size, (uint8_t)flag};
+        planner_tally longer = {9, 9, 9};
+        const int16_t row[2] = {0, 5};
+        n = 9;
+        expect("planner_least_modulus", planner_least_modulus(plan, given, &n) == 0 && n == bounds[plan][2]);
+        expect("planner_add_row", planner_add_row(plan, 2, rows, 6, given, row, 2, &longer.m, &longer.size, &longer.zero) == 0);
+        expect("planner_add_row", holds(longer, 4, t.size + (plan < 2 ? 1 : 2), 1));
+    }
+}
+
+/* what a refused call was lent is kept */
+static void expect_tally_refused(void)
+{
+    const int16_t rows[6] = {0, 0, 1, 0, 1, 1};
+    const int16_t row[3] = {0, 1, 0};
+    const int16_t outside[2] = {0, 256};
+    const planner_tally right = {3, 7, 1};
+    const planner_tally wrong[4] = {{2, 7, 1}, {3, 6, 1}, {3, 7, 0}, {0, 0, 0}};
+    const planner_tally out_of_range[4] = {{513, 513, 0}, {2, 129, 0}, {0, 0, 1}, {UINT32_MAX, UINT32_MAX, 255}};
+    planner_tally t = {11, 12, 13};
+    uint16_t n = 14;
+
+    expect("planner_tally_list", planner_tally_list(5, 2, rows, 6, &t.m, &t.size, &t.zero) == 1);
+    expect("planner_tally_list", planner_tally_list(2, 7, rows, 6, &t.m, &t.size, &t.zero) == 2);
+    expect("planner_tally_list", planner_tally_list(2, 2, rows, 5, &t.m, &t.size, &t.zero) == 3);
+    expect("planner_tally_list", planner_tally_list(2, 2, outside, 2, &t.m, &t.size, &t.zero) == 4);
+    expect("planner_tally_list", planner_tally_list(2, 1, rows, 6, &t.m, &t.size, &t.zero) == 5);
+    expect("planner_add_row", planner_add_row(5, 2, rows, 6, right, row, 2, &t.m, &t.size, &t.zero) == 1);
+    expect("planner_add_row", planner_add_row(2, 0, rows, 6, right, row, 2, &t.m, &t.size, &t.zero) == 2);
+    expect("planner_add_row", planner_add_row(2, 2, rows, 5, right, row, 2, &t.m, &t.size, &t.zero) == 3);
+    expect("planner_add_row", planner_add_row(2, 2, rows, 6, right, row, 3, &t.m, &t.size, &t.zero) == 3);
+    expect("planner_add_row", planner_add_row(2, 2, rows, 6, right, outside, 2, &t.m, &t.size, &t.zero) == 4);
+    expect("planner_add_row", planner_add_row(2, 2, rows, 6, wrong[0], rows + 4, 2, &t.m, &t.size, &t.zero) == 5);
+    for (size_t i = 0; i < 4; i++) {
+        expect("planner_add_row", planner_add_row(2, 2, rows, 6, wrong[i], row, 2, &t.m, &t.size, &t.zero) == 3);
+        expect("planner_least_modulus", planner_least_modulus(2, out_of_range[i], &n) == 3);
+    }
+    expect("planner_least_modulus", planner_least_modulus(5, right, &n) == 1);
+    expect("a refused call", holds(t, 11, 12, 13) && n == 14);
+
+    /* the largest bound, and the least, which only a false record gets */
+    const planner_tally largest = {512, 32768, 0};
+    const planner_tally hollow = {1, 0, 1};
+    expect("planner_least_modulus", planner_least_modulus(2, largest, &n) == 0 && n == 32769);
+    expect("planner_least_modulus", planner_least_modulus(2, hollow, &n) == 0 && n == 0);
 }
 
 int main(void)
@@ -75,6 +158,8 @@ int main(void)
 
     for (uint8_t plan = 0; plan <= 4; plan++) {
         expect_no_rows(plan);
+        expect_tally(plan);
     }
+    expect_tally_refused();
     return wrong;
 }

@@ -1,6 +1,7 @@
 /*
  * Document 01's printed example through the header: cosine plan C, rows 0, 1, 2, ceiling 10. It prints the plan and the map as the
- * program `plan` does, then a request that is refused: plan 0, row 6, ceiling 3.
+ * program `plan` does, then a request that is refused: plan 0, row 6, ceiling 3. Last it types the rows one after the other, and
+ * prints after each the record and the least modulus worth trying under cosine plan A; a row that is in already is refused.
  */
 #include <inttypes.h>
 #include <stdio.h>
@@ -8,6 +9,32 @@
 #include "planner.h"
 
 enum { AXES = 1, ROWS = 3 };
+
+/* The rows typed one after the other under plan A: after each its list's record, and the least modulus worth trying. */
+static int type_rows(const int16_t *rows)
+{
+    planner_tally tally = {0, 0, 0};
+    uint8_t refused;
+
+    for (size_t i = 0; i < ROWS; i++) {
+        uint16_t least;
+        refused = planner_add_row(2, AXES, rows, i * AXES, tally, rows + i * AXES, AXES, &tally.m, &tally.size, &tally.zero);
+        if (refused == 0) {
+            refused = planner_least_modulus(2, tally, &least);
+        }
+        if (refused != 0) {
+            printf("refused %" PRIu8 "\n", refused);
+            return 1;
+        }
+        printf("%" PRIu32 " %" PRIu32 " %" PRIu8 ": %" PRIu16 "\n", tally.m, tally.size, tally.zero, least);
+    }
+
+    /* the first row again is refused: the record keeps what it holds */
+    planner_tally before = tally;
+    refused = planner_add_row(2, AXES, rows, ROWS * AXES, tally, rows, AXES, &tally.m, &tally.size, &tally.zero);
+    printf("refused %" PRIu8 "\n", refused);
+    return tally.m == before.m && tally.size == before.size && tally.zero == before.zero ? 0 : 1;
+}
 
 int main(void)
 {
@@ -39,5 +66,8 @@ int main(void)
     uint16_t z_before = z[0];
     refused = planner_search_smallest(0, 1, six, 1, 3, z, 1, &n);
     printf("refused %" PRIu8 "\n", refused);
-    return n == n_before && z[0] == z_before ? 0 : 1;
+    if (n != n_before || z[0] != z_before) {
+        return 1;
+    }
+    return type_rows(rows);
 }

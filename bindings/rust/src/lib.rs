@@ -5,8 +5,13 @@
 //! which rows may not share one. A row's mirrors are the different rows got by changing signs of its components; for
 //! [`Rule::Fourier`] the row is its only one.
 //!
-//! The functions are those of a library that is proved to meet document 01 of the planner; this crate links it and adds nothing to
-//! the answers. No argument makes a call panic: wrong ones are answered with a [`Refusal`], and then nothing lent is written.
+//! The searches give a plan, [`check`] tries one, and [`residue_map`], [`spread`], [`gather`] and [`point_list`] work with it.
+//! While rows are still being typed, a [`Tally`] is the record of those that are in: [`add_row`] counts one more, and
+//! [`least_modulus`] says from the record alone which moduli are hopeless.
+//!
+//! The functions are those of a library that is proved to meet document 01 of the planner, and the requests of document 02 that have
+//! landed; this crate links it and adds nothing to the answers. No argument makes a call panic: wrong ones are answered with a
+//! [`Refusal`], and then nothing lent is written.
 //!
 //! ```
 //! use planner::{gather, residue_map, search_smallest, spread, Entry, Plan, Refusal, Rule};
@@ -85,6 +90,29 @@ pub struct Entry {
     pub residue: u16,
     /// How many of its mirrors have this residue, the row among them.
     pub copies: u16,
+}
+
+/// The record of a list under a rule. The default is that of a list of no rows.
+#[derive(Clone, Copy, Debug, PartialEq, Eq, Hash, Default)]
+pub struct Tally {
+    /// The number of rows.
+    pub m: u32,
+    /// The number of different mirrors of all rows; for [`Rule::ExactIntegration`] and [`Rule::Fourier`] it is m.
+    pub size: u32,
+    /// Whether the zero row is in.
+    pub zero: bool,
+}
+
+impl From<Tally> for sys::PlannerTally {
+    fn from(tally: Tally) -> sys::PlannerTally {
+        sys::PlannerTally { m: tally.m, size: tally.size, zero: u8::from(tally.zero) }
+    }
+}
+
+impl From<sys::PlannerTally> for Tally {
+    fn from(tally: sys::PlannerTally) -> Tally {
+        Tally { m: tally.m, size: tally.size, zero: tally.zero != 0 }
+    }
 }
 
 /// Whether the pair n, z is admissible: meets the rule for the list. Refusals: 1 to 7.
@@ -278,6 +306,105 @@ pub fn search_smallest_into(rule: Rule, d: usize, rows: &[i16], ceiling: u16, z:
             &mut found,
         )
     };
+    Refusal::told(number).map(|()| found)
+}
+
+/// The record of a whole list, counted at once. Refusals: 1 to 5.
+///
+/// ```
+/// use planner::{tally_list, Rule, Tally};
+/// // (0, 0) is its only mirror, (1, 0) has two and (1, 1) has four
+/// let rows = [0, 0, 1, 0, 1, 1];
+/// assert_eq!(tally_list(Rule::CosineA, 2, &rows), Ok(Tally { m: 3, size: 7, zero: true }));
+/// assert_eq!(tally_list(Rule::Fourier, 2, &rows), Ok(Tally { m: 3, size: 3, zero: true }));
+/// assert_eq!(tally_list(Rule::CosineA, 2, &[]), Ok(Tally::default()));
+/// ```
+pub fn tally_list(rule: Rule, d: usize, rows: &[i16]) -> Result<Tally, Refusal> {
+    let mut told = sys::PlannerTally { m: 0, size: 0, zero: 0 };
+    // SAFETY: the pointer and the length are those of a slice, and `told` is a local of our own.
+    let number = unsafe {
+        sys::planner_tally_list(rule as u8, d, rows.as_ptr(), rows.len(), &mut told.m, &mut told.size, &mut told.zero)
+    };
+    Refusal::told(number).map(|()| told.into())
+}
+
+/// One row more: from a list, its record and a row, the record of the longer list, which is the list and then the row. The caller
+/// appends the row himself. Refusals: 1 to 5 as for the longer list, 3 also where the row has not d components, and after 5 again 3
+/// where the record is not the one that [`tally_list`] gives for the list.
+///
+/// Five rows typed one after the other, and what is worth trying after each:
+///
+/// ```
+/// use planner::{add_row, least_modulus, search_smallest, tally_list, Refusal, Rule, Tally};
+///
+/// let rule = Rule::CosineA;
+/// let typed: [([i16; 2], u32, u16); 5] = [
+///     ([1, 1], 4, 5), // four mirrors, and none of them may have residue 0
+///     ([2, 0], 6, 7),
+///     ([0, 0], 7, 7), // the zero row has residue 0
+///     ([0, 1], 9, 9),
+///     ([2, 1], 13, 13),
+/// ];
+/// let (mut rows, mut tally) = (vec![], Tally::default());
+/// for (row, size, least) in typed {
+///     tally = add_row(rule, 2, &rows, tally, &row)?;
+///     rows.extend(row);
+///     assert_eq!(tally.size, size);
+///     assert_eq!(least_modulus(rule, tally)?, least);
+/// }
+/// assert_eq!(tally, Tally { m: 5, size: 13, zero: true });
+/// assert_eq!(tally, tally_list(rule, 2, &rows)?);
+///
+/// // the smallest plan is not below 13: it is 15
+/// let plan = search_smallest(rule, 2, &rows, 100)?;
+/// assert_eq!(plan.n, 15);
+/// assert!(plan.n >= least_modulus(rule, tally)?);
+///
+/// // a row that is in already, and a record that is not the list's
+/// assert_eq!(add_row(rule, 2, &rows, tally, &[0, 1]), Err(Refusal::EqualRows));
+/// assert_eq!(add_row(rule, 2, &rows, Tally::default(), &[3, 3]), Err(Refusal::Length));
+/// # Ok::<(), Refusal>(())
+/// ```
+pub fn add_row(rule: Rule, d: usize, rows: &[i16], tally: Tally, row: &[i16]) -> Result<Tally, Refusal> {
+    let mut told = sys::PlannerTally { m: 0, size: 0, zero: 0 };
+    // SAFETY: the pointers and lengths are those of slices, and `told` is a local of our own.
+    let number = unsafe {
+        sys::planner_add_row(
+            rule as u8,
+            d,
+            rows.as_ptr(),
+            rows.len(),
+            tally.into(),
+            row.as_ptr(),
+            row.len(),
+            &mut told.m,
+            &mut told.size,
+            &mut told.zero,
+        )
+    };
+    Refusal::told(number).map(|()| told.into())
+}
+
+/// The least modulus worth trying, from the record alone. Where it is the record of a list, no smaller modulus has an admissible
+/// vector for this list; an answer above [`MOST_MODULUS`] (up to 32,769) says that no modulus has one. Refusals: 1, and 3 where
+/// there are more than 512 rows, more than 64 mirrors for each row, or a zero row among no rows. A record that no list has may pass
+/// these: its answer says nothing, and may be 0.
+///
+/// ```
+/// use planner::{least_modulus, Refusal, Rule, Tally};
+/// // the zero row and two others, with seven mirrors in all
+/// let tally = Tally { m: 3, size: 7, zero: true };
+/// assert_eq!(least_modulus(Rule::CosineA, tally), Ok(7));
+/// assert_eq!(least_modulus(Rule::CosineB, tally), Ok(5));
+/// assert_eq!(least_modulus(Rule::CosineC, tally), Ok(3));
+/// // 512 rows with 64 mirrors each: nothing can be admissible
+/// assert_eq!(least_modulus(Rule::CosineA, Tally { m: 512, size: 32768, zero: false }), Ok(32769));
+/// assert_eq!(least_modulus(Rule::CosineA, Tally { m: 513, size: 513, zero: false }), Err(Refusal::Length));
+/// ```
+pub fn least_modulus(rule: Rule, tally: Tally) -> Result<u16, Refusal> {
+    let mut found = 0;
+    // SAFETY: `found` is a local of our own.
+    let number = unsafe { sys::planner_least_modulus(rule as u8, tally.into(), &mut found) };
     Refusal::told(number).map(|()| found)
 }
 

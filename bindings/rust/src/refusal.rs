@@ -10,7 +10,9 @@ pub enum Refusal {
     Plan,
     /// 2: the number of axes is not 1 to 6.
     Axes,
-    /// 3: the length of the list is no multiple of the number of axes, or it has more than 512 rows.
+    /// 3: the length of the list is no multiple of the number of axes, or it has more than 512 rows. Adding a row: also a row that
+    /// has not a component for each axis, and, where nothing else is wrong, a record that is not the list's. The least modulus: a
+    /// record with more than 512 rows, more than 64 mirrors for each row, or a zero row among no rows.
     Length,
     /// 4: a component is not from -255 to 255, or is negative in a cosine plan.
     Component,
@@ -91,7 +93,7 @@ impl fmt::Display for Refusal {
         f.write_str(match self {
             Refusal::Plan => "there is no such plan, or it has no map",
             Refusal::Axes => "the number of axes is not 1 to 6",
-            Refusal::Length => "the list is of a wrong length, or has more than 512 rows",
+            Refusal::Length => "the list or row is of a wrong length, there are over 512 rows, or the record is wrong",
             Refusal::Component => "a component of a row is outside its range",
             Refusal::EqualRows => "two rows are equal",
             Refusal::Modulus => "the modulus is not 1 to 8192",

@@ -1,9 +1,18 @@
 //! The library's functions as they are. A slice is passed as its pointer and then its length. Each returns the number of the
 //! refusal, 0 for none; then what it was lent is written, and otherwise left as it was.
 //!
-//! What a caller owes: every pointer is aligned and points to as many elements as its length says, where one whose length is 0 may be
-//! null; `yes` and `found` are not null; and what may be written overlaps nothing else that is passed. `include/planner.h` says what
-//! each call does.
+//! What a caller owes: every pointer is aligned and points to as many elements as its length says, where one whose length is 0 may
+//! be null; `yes`, `found`, `m`, `size` and `zero` are not null and point to one element each; and what may be written overlaps
+//! nothing else that is passed. `include/planner.h` says what each call does.
+
+/// The record of a list, as the library takes it: by value. The flag `zero` is no where it is 0, and yes for any other number.
+#[derive(Clone, Copy, Debug)]
+#[repr(C)]
+pub struct PlannerTally {
+    pub m: u32,
+    pub size: u32,
+    pub zero: u8,
+}
 
 extern "C" {
     pub fn planner_check(
@@ -88,4 +97,29 @@ extern "C" {
         z_len: usize,
         found: *mut u16,
     ) -> u8;
+
+    pub fn planner_tally_list(
+        plan: u8,
+        d: usize,
+        rows: *const i16,
+        rows_len: usize,
+        m: *mut u32,
+        size: *mut u32,
+        zero: *mut u8,
+    ) -> u8;
+
+    pub fn planner_add_row(
+        plan: u8,
+        d: usize,
+        rows: *const i16,
+        rows_len: usize,
+        tally: PlannerTally,
+        row: *const i16,
+        row_len: usize,
+        m: *mut u32,
+        size: *mut u32,
+        zero: *mut u8,
+    ) -> u8;
+
+    pub fn planner_least_modulus(plan: u8, tally: PlannerTally, found: *mut u16) -> u8;
 }

@@ -8,8 +8,10 @@ mod random;
 use std::collections::BTreeMap;
 use std::fmt::Debug;
 use std::ptr::{null, null_mut};
+use std::slice::from_ref;
 
-use planner::{sys, Entry, Plan, Refusal, Rule};
+use independent::Record;
+use planner::{sys, Entry, Plan, Refusal, Rule, Tally, MOST_MODULUS};
 use random::Random;
 
 /// The arguments that most calls share.
@@ -64,6 +66,11 @@ impl<T: Copy + PartialEq + Debug> Lent<T> {
             Some(written) => assert_eq!(&self.all[GUARD..end], written, "{told:?}"),
             None => assert!(untouched(&self.all[GUARD..end]), "a refused call wrote: {told:?}"),
         }
+    }
+
+    /// The same of a single place.
+    fn holds_one(&self, written: Option<T>, told: &dyn Debug) {
+        self.holds(written.as_ref().map(from_ref), told);
     }
 }
 
@@ -131,7 +138,7 @@ fn compare_check(c: &Case) -> Result<bool, u8> {
     let expected = independent::check(c.plan, c.d, &c.rows, c.n, &c.z);
     let mut yes = Lent::new(1, 0xa5);
     assert_eq!(raw!(planner_check, c, yes.lend().as_mut_ptr()), number(&expected), "{c:?}");
-    yes.holds(expected.ok().map(|yes| [u8::from(yes)]).as_ref().map(|yes| &yes[..]), c);
+    yes.holds_one(expected.ok().map(u8::from), c);
     assert_eq!(safely(c.plan, |rule| planner::check(rule, c.d, &c.rows, c.n, &c.z)), expected, "{c:?}");
     expected
 }
@@ -240,7 +247,7 @@ fn compare_search(search: Search, c: &Case, places: usize) -> Result<(u16, Vec<u
     };
     let expected = independent(c.plan, c.d, &c.rows, c.n, places);
     let vector = expected.clone().map(|(_, z)| z);
-    let modulus = expected.as_ref().ok().map(|(n, _)| [*n]);
+    let modulus = expected.as_ref().ok().map(|(n, _)| *n);
     let mut found = Lent::new(1, 0x5a5a);
     compare_places(
         c.plan,
@@ -252,13 +259,80 @@ fn compare_search(search: Search, c: &Case, places: usize) -> Result<(u16, Vec<u
             let (rows, found) = (&c.rows, found.lend().as_mut_ptr());
             raw(c.plan, c.d, rows.as_ptr(), rows.len(), c.n, z.as_mut_ptr(), z.len(), found)
         },
-        |rule, z| into(rule, c.d, &c.rows, c.n, z).map(|n| assert_eq!(Some([n]), modulus, "{told:?}")),
+        |rule, z| into(rule, c.d, &c.rows, c.n, z).map(|n| assert_eq!(Some(n), modulus, "{told:?}")),
     );
-    found.holds(modulus.as_ref().map(|n| &n[..]), &told);
+    found.holds_one(modulus, &told);
     if places == c.axes() {
         let plan = expected.clone().map(|(n, z)| Plan { n, z });
         assert_eq!(safely(c.plan, |rule| whole(rule, c.d, &c.rows, c.n)), plan, "{told:?}");
     }
+    expected
+}
+
+/// What adding a row takes: a list, its record and the row.
+#[derive(Clone, Debug)]
+struct Addition {
+    plan: u8,
+    d: usize,
+    rows: Vec<i16>,
+    tally: Record,
+    row: Vec<i16>,
+}
+
+/// The record for the library's own functions, once for each of the numbers that may stand for its flag: 0 is no, any other is yes.
+fn lent_records((m, size, zero): Record) -> impl Iterator<Item = sys::PlannerTally> {
+    let flags: &[u8] = if zero { &[1, 2, 128, 255] } else { &[0] };
+    flags.iter().map(move |&zero| sys::PlannerTally { m, size, zero })
+}
+
+/// The record for the safe interface.
+fn record((m, size, zero): Record) -> Tally {
+    Tally { m, size, zero }
+}
+
+/// A function of the library that writes a record: it returns the number expected, and the three places hold what is expected.
+fn compare_record(expected: Result<Record, u8>, told: &dyn Debug, raw: impl Fn(*mut u32, *mut u32, *mut u8) -> u8) {
+    let (mut m, mut size, mut zero) = (Lent::new(1, 0xa5a5_a5a5), Lent::new(1, 0x5a5a_5a5a), Lent::new(1, 0xa5));
+    let answer = raw(m.lend().as_mut_ptr(), size.lend().as_mut_ptr(), zero.lend().as_mut_ptr());
+    assert_eq!(answer, number(&expected), "{told:?}");
+    m.holds_one(expected.ok().map(|(m, _, _)| m), told);
+    size.holds_one(expected.ok().map(|(_, size, _)| size), told);
+    zero.holds_one(expected.ok().map(|(_, _, zero)| u8::from(zero)), told);
+}
+
+fn compare_tally(plan: u8, d: usize, rows: &[i16]) -> Result<Record, u8> {
+    let told = (plan, d, rows);
+    let expected = independent::tally_list(plan, d, rows);
+    compare_record(expected, &told, |m, size, zero| unsafe {
+        sys::planner_tally_list(plan, d, rows.as_ptr(), rows.len(), m, size, zero)
+    });
+    assert_eq!(safely(plan, |rule| planner::tally_list(rule, d, rows)), expected.map(record), "{told:?}");
+    expected
+}
+
+fn compare_add(a: &Addition) -> Result<Record, u8> {
+    let (rows, row) = (&a.rows, &a.row);
+    let expected = independent::add_row(a.plan, a.d, rows, a.tally, row);
+    for tally in lent_records(a.tally) {
+        compare_record(expected, &(a, tally), |m, size, zero| unsafe {
+            let (rows_len, row_len) = (rows.len(), row.len());
+            sys::planner_add_row(a.plan, a.d, rows.as_ptr(), rows_len, tally, row.as_ptr(), row_len, m, size, zero)
+        });
+    }
+    let answer = safely(a.plan, |rule| planner::add_row(rule, a.d, rows, record(a.tally), row));
+    assert_eq!(answer, expected.map(record), "{a:?}");
+    expected
+}
+
+fn compare_bound(plan: u8, tally: Record) -> Result<u16, u8> {
+    let expected = independent::least_modulus(plan, tally);
+    for lent in lent_records(tally) {
+        let mut found = Lent::new(1, 0x5a5a);
+        let answer = unsafe { sys::planner_least_modulus(plan, lent, found.lend().as_mut_ptr()) };
+        assert_eq!(answer, number(&expected), "{plan} {lent:?}");
+        found.holds_one(expected.ok(), &(plan, lent));
+    }
+    assert_eq!(safely(plan, |rule| planner::least_modulus(rule, record(tally))), expected, "{plan} {tally:?}");
     expected
 }
 
@@ -465,6 +539,16 @@ fn long_lists() {
     all_seen(&seen, 1);
 }
 
+/// Rows over six axes with all components above 0, so that each has 64 mirrors: 512 rows have 32768.
+fn wide_rows(count: i16) -> Vec<i16> {
+    (0..count).flat_map(|i| [1 + i % 8, 1 + i / 8 % 8, 1 + i / 64, 1, 2, 3]).collect()
+}
+
+/// Rows over two axes: 512 rows are those from 0 to (31, 15), with 31 * 15 * 4 + (31 + 15) * 2 + 1 = 1953 mirrors.
+fn square_rows(count: i16) -> Vec<i16> {
+    (0..count).flat_map(|i| [i / 16, i % 16]).collect()
+}
+
 /// 512 rows, the most there may be, and 513, in every plan.
 #[test]
 fn full_lists() {
@@ -473,7 +557,7 @@ fn full_lists() {
     for plan in 0..5 {
         // 512 rows over 1, 2, 3 and 6 axes, admissible by the digits of a number
         let mut line: Vec<i16> = (-255..=255).collect();
-        let square: Vec<i16> = (0..32).flat_map(|a| (0..16).flat_map(move |b| [a, b])).collect();
+        let square = square_rows(512);
         let cube: Vec<i16> =
             (0..8).flat_map(|a| (0..8).flat_map(move |b| (0..8).flat_map(move |e| [a, b, e]))).collect();
         let mut cases =
@@ -484,8 +568,7 @@ fn full_lists() {
             line.push(256);
             cases.push(Case::new(plan, 1, &line, 8191, &[8190]));
         }
-        // 512 rows with all components above 0 have 32768 mirrors
-        let many: Vec<i16> = (0..512i16).flat_map(|i| [1 + i % 8, 1 + i / 8 % 8, 1 + i / 64, 1, 2, 3]).collect();
+        let many = wide_rows(512);
         cases.push(Case::new(plan, 6, &many, 8192, &[1, 8, 64, 512, 1024, 2048]));
         cases.push(Case::new(plan, 6, &many, 8191, &[1, 17, 289, 4913, 301, 5117]));
         for mut c in cases {
@@ -641,7 +724,7 @@ fn searches() {
 }
 
 /// The list of no rows (document 02, a): every pair is admissible, the smallest plan is n = 1 with the zero vector, the map and the
-/// terms have no places, and the sums are zeros.
+/// terms have no places, and the sums are zeros. Its record is the default one, and 1 is worth trying.
 #[test]
 fn no_rows() {
     let mut random = Random::new(8);
@@ -656,6 +739,8 @@ fn no_rows() {
         assert_eq!(compare_check(&c), Ok(true), "{c:?}");
         assert_eq!(compare_search(Search::Vector, &c, d), Ok((n, vec![0; d])), "{c:?}");
         assert_eq!(compare_search(Search::Smallest, &c, d), Ok((1, vec![0; d])), "{c:?}");
+        assert_eq!(compare_tally(plan, d, &[]).map(record), Ok(Tally::default()), "{c:?}");
+        assert_eq!(compare_bound(plan, (0, 0, false)), Ok(1), "{c:?}");
         if plan != 0 {
             assert_eq!(compare_map(&c, 0), Ok(vec![]), "{c:?}");
             assert_eq!(compare_spread(&c, &[], usize::from(n)), Ok(vec![0; usize::from(n)]), "{c:?}");
@@ -666,6 +751,272 @@ fn no_rows() {
         }
         damage_some(&mut c, 2, &mut random);
         compare_all(&c, &mut random, &mut seen);
+    }
+}
+
+/// One thing of an addition is made wrong, or at least other.
+fn damage_addition(a: &mut Addition, random: &mut Random) {
+    let axes = a.d.clamp(1, 6);
+    let m = a.rows.len() / axes;
+    match random.below(14) {
+        0 => a.plan = random.pick(&[0, 1, 2, 3, 4, 5, 6, 255]),
+        1 => a.d = random.pick(&[0, 1, 2, 3, 4, 5, 6, 7, 8, 64, 1 << 32, usize::MAX]),
+        2 => {
+            a.rows.pop();
+        }
+        3 => a.rows.push(7),
+        4 => {
+            a.row.pop();
+        }
+        5 => a.row.push(7),
+        // the list is no whole number of rows, but is with the row
+        6 => a.row.extend(a.rows.pop()),
+        7 if !a.rows.is_empty() => {
+            let at = random.below(a.rows.len());
+            a.rows[at] = random.pick(&[-1, -255, 255, 256, -256, 0, i16::MAX, i16::MIN]);
+        }
+        8 if !a.row.is_empty() => {
+            let at = random.below(a.row.len());
+            a.row[at] = random.pick(&[-1, -255, 255, 256, -256, 0, i16::MAX, i16::MIN]);
+        }
+        // a row of the list again: as the new row, or in the list
+        9 if m > 0 => a.row = a.rows[random.below(m) * axes..][..axes].to_vec(),
+        10 if m > 0 => a.rows.extend_from_within(..axes),
+        11 => a.tally.0 = other_number(a.tally.0, random),
+        12 => a.tally.1 = other_number(a.tally.1, random),
+        _ => a.tally.2 = !a.tally.2,
+    }
+}
+
+fn other_number(x: u32, random: &mut Random) -> u32 {
+    let any = random.next() as u32;
+    random.pick(&[x.wrapping_add(1), x.wrapping_sub(1), x.wrapping_add(256), x ^ 1 << 16, x ^ 1 << 31, u32::MAX, any])
+}
+
+/// A row over d axes, every eighth the zero row.
+fn any_row(plan: u8, d: usize, span: usize, random: &mut Random) -> Vec<i16> {
+    let span = if random.below(8) == 0 { 0 } else { span };
+    (0..d).map(|_| component(plan, span, random)).collect()
+}
+
+/// The running tally (document 02, b), row after row from no rows on: each time the record is the recount of the longer list, and a
+/// row that is in already is refused. Beside it the same addition with some things damaged.
+#[test]
+fn growing_lists() {
+    let mut random = Random::new(9);
+    let (mut added, mut damaged, mut counted) = (Seen::default(), Seen::default(), Seen::default());
+    let mut with_zero = 0;
+    for turn in 0..1000 {
+        let plan = (turn % 5) as u8;
+        let d = 1 + random.below(6);
+        let span = random.pick(&[1, 1, 2, 3, 10, 255]);
+        let mut a = Addition { plan, d, rows: vec![], tally: (0, 0, false), row: vec![] };
+        assert_eq!(compare_tally(plan, d, &a.rows), Ok(a.tally), "{a:?}");
+        for _ in 0..random.below(20) {
+            a.row = any_row(plan, d, span, &mut random);
+
+            let mut other = a.clone();
+            for _ in 0..=random.below(2) {
+                damage_addition(&mut other, &mut random);
+            }
+            damaged.add(&compare_add(&other));
+            counted.add(&compare_tally(other.plan, other.d, &[&other.rows[..], &other.row].concat()));
+
+            let answer = compare_add(&a);
+            added.add(&answer);
+            if let Ok(tally) = answer {
+                a.rows.extend(&a.row);
+                a.tally = tally;
+                assert_eq!(compare_tally(plan, d, &a.rows), Ok(tally), "{a:?}");
+                assert_eq!(tally.0 as usize * d, a.rows.len(), "{a:?}");
+                assert!(compare_bound(plan, tally).unwrap() >= 1, "{a:?}");
+            }
+        }
+        with_zero += usize::from(a.tally.2);
+    }
+    added.all_of(&[0, 5], 500);
+    damaged.all_of(&[0, 1, 2, 3, 4, 5], 100);
+    counted.all_of(&[0, 1, 2, 3, 4, 5], 100);
+    assert!((200..800).contains(&with_zero), "{with_zero}");
+}
+
+/// A record that is other than the recount in one field is refused with 3, after everything that is wrong with the longer list.
+#[test]
+fn wrong_records() {
+    let mut random = Random::new(10);
+    let mut others = 0;
+    for turn in 0..600 {
+        let plan = (turn % 5) as u8;
+        let d = 1 + random.below(6);
+        let count = random.below(12);
+        let rows = different_rows(plan, count, &vec![3; d], &mut random).concat();
+        let tally = compare_tally(plan, d, &rows).unwrap();
+        // no row of the list has a 4
+        let mut a = Addition { plan, d, rows, tally, row: vec![4; d] };
+        let longer = compare_add(&a);
+        assert!(longer.is_ok(), "{a:?}");
+
+        let (m, size, zero) = tally;
+        let mut wrong = vec![(m, size, !zero), (size, m, zero), (m, m, zero), longer.unwrap()];
+        wrong.extend((0..3).map(|_| (other_number(m, &mut random), size, zero)));
+        wrong.extend((0..3).map(|_| (m, other_number(size, &mut random), zero)));
+        for other in wrong.into_iter().filter(|other| *other != tally) {
+            others += 1;
+            a.tally = other;
+            assert_eq!(compare_add(&a), Err(3), "{a:?}");
+            if m > 0 {
+                let equal = Addition { row: a.rows[..d].to_vec(), ..a.clone() };
+                assert_eq!(compare_add(&equal), Err(5), "{equal:?}");
+            }
+            let outside = Addition { row: vec![256; d], ..a.clone() };
+            assert_eq!(compare_add(&outside), Err(4), "{outside:?}");
+        }
+    }
+    assert!(others > 3000, "{others}");
+}
+
+/// Lists of up to 512 rows grow row by row, and not to 513: counted again at some rows and at the last ones.
+#[test]
+fn growing_to_full_lists() {
+    let line: Vec<i16> = (-255..=255).collect();
+    let (square, wide) = (square_rows(513), wide_rows(513));
+    for plan in 0..5 {
+        let lists = if plan < 2 {
+            vec![(1, &line, (511, 511, true)), (2, &square, (512, 512, true)), (6, &wide, (512, 512, false))]
+        } else {
+            vec![(2, &square, (512, 1953, true)), (6, &wide, (512, 32768, false))]
+        };
+        for (d, whole, last) in lists {
+            let mut a = Addition { plan, d, rows: vec![], tally: (0, 0, false), row: vec![] };
+            for (i, row) in whole.chunks(d).enumerate().take(512) {
+                a.row = row.to_vec();
+                let tally = safely(plan, |rule| planner::add_row(rule, d, &a.rows, record(a.tally), row)).unwrap();
+                if i % 64 == 0 || i > 509 {
+                    assert_eq!(compare_add(&a).map(record), Ok(tally), "{i} {a:?}");
+                }
+                a.rows.extend(row);
+                a.tally = (tally.m, tally.size, tally.zero);
+            }
+            assert_eq!(a.tally, last);
+            assert_eq!(compare_tally(plan, d, &a.rows), Ok(last));
+            if a.tally.0 == 512 {
+                // one row too many is refused before anything else that is wrong with it
+                for row in [&whole[512 * d..], &whole[..d], &vec![256; d]] {
+                    a.row = row.to_vec();
+                    assert_eq!(compare_add(&a), Err(3), "{a:?}");
+                }
+                assert_eq!(compare_tally(plan, d, whole), Err(3));
+            }
+        }
+    }
+}
+
+/// The bound at every border of a record, and beyond: m at 512, the size at 64 m, the zero row at m = 0.
+#[test]
+fn bounds() {
+    let mut random = Random::new(11);
+    let mut seen = Seen::default();
+    let (mut largest, mut least) = (0, u16::MAX);
+    for plan in [0, 1, 2, 3, 4, 5, 6, 255] {
+        for m in [0, 1, 2, 3, 4, 63, 64, 65, 255, 256, 511, 512, 513, 514, 1 << 16, 1 << 26, (1 << 26) + 1, u32::MAX] {
+            let most = m.wrapping_mul(64);
+            let near = [most.wrapping_sub(1), most, most.wrapping_add(1), m.wrapping_sub(1), m, m.wrapping_add(1)];
+            let far =
+                [0, 1, 2, 32767, 32768, 32769, 1 << 16, u32::MAX, random.next() as u32, random.below(32769) as u32];
+            for size in near.into_iter().chain(far) {
+                for zero in [false, true] {
+                    let answer = compare_bound(plan, (m, size, zero));
+                    seen.add(&answer);
+                    if let Ok(bound) = answer {
+                        (largest, least) = (largest.max(bound), least.min(bound));
+                    }
+                }
+            }
+        }
+    }
+    assert_eq!((least, largest), (0, 32769));
+    for _ in 0..20000 {
+        let plan = random.below(6) as u8;
+        let m = random.below(520) as u32;
+        let size = random.below(64 * m as usize + 20) as u32;
+        let zero = random.below(2) == 0;
+        seen.add(&compare_bound(plan, (m, size, zero)));
+    }
+    seen.all_of(&[0, 1, 3], 500);
+
+    // one step on each side of each border
+    for plan in 0..5 {
+        assert!(compare_bound(plan, (512, 512, false)).is_ok());
+        assert_eq!(compare_bound(plan, (513, 513, false)), Err(3));
+        assert!(compare_bound(plan, (3, 192, true)).is_ok());
+        assert_eq!(compare_bound(plan, (3, 193, true)), Err(3));
+        assert_eq!(compare_bound(plan, (0, 0, false)), Ok(1));
+        assert_eq!(compare_bound(plan, (0, 1, false)), Err(3));
+        assert_eq!(compare_bound(plan, (0, 0, true)), Err(3));
+        assert_eq!(compare_bound(plan, (u32::MAX, u32::MAX, true)), Err(3));
+        // 64 m is 0 in 32 bits
+        assert_eq!(compare_bound(plan, (1 << 26, 0, false)), Err(3));
+    }
+    // what no list has may get the bound 0
+    assert_eq!(compare_bound(2, (1, 0, true)), Ok(0));
+}
+
+/// All vectors of d components from 0 to n - 1.
+fn all_vectors(d: usize, n: u16) -> Vec<Vec<u16>> {
+    (0..d)
+        .fold(vec![vec![]], |shorter, _| shorter.iter().flat_map(|z| (0..n).map(|x| [&z[..], &[x]].concat())).collect())
+}
+
+/// Below the bound no vector is admissible, by the second planner and by the library's check; the vector search there is refused with
+/// 9, so is the smallest plan with a ceiling there, and the smallest plan of all is not below it.
+#[test]
+fn hopeless_moduli() {
+    let mut random = Random::new(12);
+    let (mut at, mut above) = ([0; 5], [0; 5]);
+    for turn in 0..1500 {
+        let plan = turn % 5;
+        let rule = Rule::ALL[plan];
+        let d = 1 + random.below(3);
+        let span = random.pick(&[1, 1, 2, 3, 10]);
+        let count = random.below([8, 5, 3][d - 1]);
+        let rows = different_rows(plan as u8, count, &vec![span; d], &mut random).concat();
+        let tally = compare_tally(plan as u8, d, &rows).unwrap();
+        let bound = compare_bound(plan as u8, tally).unwrap();
+        if bound > [30, 14, 9][d - 1] {
+            continue;
+        }
+        for n in 1..bound {
+            let c = Case::new(plan as u8, d, &rows, n, &[]);
+            assert_eq!(compare_search(Search::Vector, &c, d), Err(9), "{c:?}");
+            for z in all_vectors(d, n) {
+                assert_eq!(planner::check(rule, d, &rows, n, &z), Ok(false), "{c:?} {z:?}");
+            }
+        }
+        if bound > 1 {
+            let c = Case::new(plan as u8, d, &rows, bound - 1, &[]);
+            assert_eq!(compare_search(Search::Smallest, &c, d), Err(9), "{c:?}");
+        }
+        let smallest = planner::search_smallest(rule, d, &rows, MOST_MODULUS).unwrap();
+        assert!(smallest.n >= bound, "{plan} {rows:?}");
+        at[plan] += usize::from(smallest.n == bound);
+        above[plan] += usize::from(smallest.n > bound);
+    }
+    assert!(at.iter().all(|count| *count > 30) && above.iter().all(|count| *count > 5), "{at:?} {above:?}");
+}
+
+/// Long lists too are hopeless below the bound; where it is above 8192, everywhere.
+#[test]
+fn hopeless_long_lists() {
+    let lists = [(6, wide_rows(512), [2, 512, 32769, 1025, 512]), (2, square_rows(512), [2, 512, 1953, 1023, 512])];
+    for (d, rows, bounds) in lists {
+        for (rule, bound) in Rule::ALL.into_iter().zip(bounds) {
+            let tally = planner::tally_list(rule, d, &rows).unwrap();
+            assert_eq!(planner::least_modulus(rule, tally), Ok(bound));
+            for n in [1, bound / 2, bound - 1, MOST_MODULUS].into_iter().filter(|n| *n < bound && *n <= MOST_MODULUS) {
+                assert_eq!(planner::search_vector(rule, d, &rows, n), Err(Refusal::NothingAdmissible));
+                assert_eq!(planner::search_smallest(rule, d, &rows, n), Err(Refusal::NothingAdmissible));
+            }
+        }
     }
 }
 
@@ -695,11 +1046,24 @@ fn null_pointers() {
             assert_eq!(sys::planner_search_smallest(plan, 2, null(), 0, 5, null_mut(), 0, &mut found), 8);
         }
         assert_eq!((yes, found, vector, sums), (1, 5, [0; 2], [0; 5]));
+
+        let none = sys::PlannerTally { m: 0, size: 0, zero: 0 };
+        let (row, mut m, mut size, mut zero) = ([1i16, 0], 9, 9, 9);
+        unsafe {
+            assert_eq!(sys::planner_tally_list(plan, 2, null(), 0, &mut m, &mut size, &mut zero), 0);
+            assert_eq!((m, size, zero), (0, 0, 0));
+            let row = row.as_ptr();
+            assert_eq!(sys::planner_add_row(plan, 2, null(), 0, none, row, 2, &mut m, &mut size, &mut zero), 0);
+            assert_eq!((m, size, zero), (1, if plan == 1 { 1 } else { 2 }, 0));
+            let row = null();
+            assert_eq!(sys::planner_add_row(plan, 2, null(), 0, none, row, 0, &mut m, &mut size, &mut zero), 3);
+            assert_eq!((m, size, zero), (1, if plan == 1 { 1 } else { 2 }, 0));
+        }
     }
 }
 
 /// What documents 01 and 02 print: the ten trial tickets and the ticket without terms, the lines below them, and the small example of
-/// each refusal.
+/// each refusal. Then the records and bounds of small lists, worked by hand.
 #[test]
 fn documented() {
     let rows = [0, 1, 2];
@@ -748,6 +1112,24 @@ fn documented() {
     assert_eq!(compare_search(Search::Smallest, &Case::new(1, 2, &axes, 9, &[]), 3), Err(8));
     assert_eq!(compare_map(&Case::new(1, 1, &[0, 1], 2, &[0]), 4), Err(10));
     assert_eq!(compare_gather(&Case::new(4, 1, &rows, 4, &[1]), &[5, -3, 3, -3], 3), Err(11));
+
+    // m, the size of M under plans 2 to 4, whether the zero row is in, and the bounds of plans 0 to 4
+    type Counted<'a> = (usize, &'a [i16], Record, [u16; 5]);
+    let lists: [Counted; 6] = [
+        (1, &rows, (3, 5, true), [2, 3, 5, 5, 3]),
+        (2, &axes, (3, 5, true), [2, 3, 5, 5, 3]),
+        (2, &[1, 1], (1, 4, false), [2, 1, 5, 3, 1]),
+        (1, &[0], (1, 1, true), [1, 1, 1, 1, 1]),
+        (1, &[0, 6], (2, 3, true), [2, 2, 3, 3, 2]),
+        (2, &[2, 1, 0, 3, 1, 1], (3, 10, false), [2, 3, 11, 7, 3]),
+    ];
+    for (d, rows, (m, size, zero), bounds) in lists {
+        for (plan, bound) in (0..).zip(bounds) {
+            let tally = (m, if plan < 2 { m } else { size }, zero);
+            assert_eq!(compare_tally(plan, d, rows), Ok(tally), "{plan} {rows:?}");
+            assert_eq!(compare_bound(plan, tally), Ok(bound), "{plan} {rows:?}");
+        }
+    }
 }
 
 /// The refusals have their numbers, and say what they are.

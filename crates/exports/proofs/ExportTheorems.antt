@@ -1,22 +1,29 @@
 -- Theorems of the exports, over their contracts alone: 0 is returned exactly where nothing is refused; a refused search leaves z and
--- the place for the modulus as they were; and a call has one outcome, refused or not.
+-- the place for the modulus as they were, and refused calls of the tally leave theirs; and a call has one outcome, refused or not.
 use mathlib.Core.Path.{_≡_, refl, sym, ap, subst, _∙_}
+use mathlib.Core.Logic.{_≢_}
 use mathlib.Core.Bool.{Bool, true, false}
 use mathlib.Core.List.{List}
 use Prim.Native.Nat.{ℕ, zero, suc}
 use native.Mathlib.Omega.{arith}
 use lib.IntN.{ℤ}
 use lib.ListN.{length}
+use Rattle.rank1.specs.declared.Tally.{Tally}
 use Rattle.rank1.specs.Index.{indexList}
 use Rattle.rank1.specs.Rule.{Admissible}
 use Rattle.rank1.specs.Search.{First, Smallest}
+use Rattle.rank1.specs.Tally.{zeros}
 use Rattle.rank1.specs.Refusal.{searchRefusal}
+use Rattle.lists.specs.declared.Counted.{Counted}
+use Rattle.lists.specs.declared.Least.{Least}
+use Rattle.lists.specs.Answer.{countedOr, countedRefusal, leastOr, leastNumber}
 use Rattle.planner.specs.declared.Verdict.{Verdict}
 use Rattle.planner.specs.declared.Plan.{Plan}
 use Rattle.planner.specs.declared.Plan.the-variants.{Found, Refused}
 use Rattle.planner.specs.Answer.{verdict, refusalNumber, RefusedOr, FirstOrNone, SmallestOrNone, VectorSearch, SmallestSearch}
 use Rattle.planner.proofs.SearchTheorems.{Same, search-vector-determined, search-smallest-determined, search-vector-keeps, search-smallest-keeps}
-use Rattle.exports.specs.Numbers.{refusalIn, CheckTold, modulusOr, PlanTold}
+use Rattle.exports.specs.declared.tally.PlannerTally.{PlannerTally}
+use Rattle.exports.specs.Numbers.{refusalIn, CheckTold, modulusOr, PlanTold, places, numbersOr, CountedTold, leastOrKept, LeastTold}
 
 -- ---- the check
 -- it returns the number of the condition that applies
@@ -82,3 +89,49 @@ module _ (plan d : ℕ) (xs : List ℤ) (n : ℕ) (before after after′ : List 
 
   pub smallest-told-determined : PlanTold (SmallestSearch plan d xs n before after) p p′ r → PlanTold (SmallestSearch plan d xs n before after′) p p″ r′ → (r ≡ r′) × (after ≡ after′) × (p′ ≡ p″)
   smallest-told-determined = told-determined after after′ p p′ p″ r r′ (search-smallest-determined plan d xs n before after after′)
+
+-- ---- the running tally
+-- counting returns the number of the condition that applies, and the least modulus call does
+pub counted-number : (k : ℕ) (t : Tally) → countedRefusal (countedOr k t) ≡ k
+counted-number zero t = refl
+counted-number (suc k) t = refl
+
+pub least-number : (k n : ℕ) → leastNumber (leastOr k n) ≡ k
+least-number zero n = refl
+least-number (suc k) n = refl
+
+-- what a place holds afterwards, where r is the number k of the condition that applies: for another number than 0 what it held before, for 0
+-- what the answer without a refusal leaves there
+module _ {A : Type 0} (answer : ℕ → A) (after : A) (k r : ℕ) (number : r ≡ k) (place : after ≡ answer k) where
+  or-before : (before : A) → ((j : ℕ) → answer (suc j) ≡ before) → r ≢ 0 → after ≡ before
+  or-before before keeps some = go k number place
+    where
+      go : (j : ℕ) → r ≡ j → after ≡ answer j → after ≡ before
+      go zero e p = absurd (some e)
+      go (suc j) e p = p ∙ keeps j
+
+  at-zero : r ≡ 0 → after ≡ answer 0
+  at-zero none = place ∙ ap answer (sym number ∙ none)
+
+-- a refused call leaves the places as they were, and 0 means the record
+module _ (k : ℕ) (t : Tally) (before after : PlannerTally) (r : ℕ) (told : CountedTold (countedOr k t) before after r) where
+  pub tally-kept : r ≢ 0 → after ≡ before
+  tally-kept = or-before (λ j. numbersOr before (countedOr j t)) after k r (told .number ∙ counted-number k t) (told .places) before (λ j. refl)
+
+  pub tally-at-zero : r ≡ 0 → after ≡ places (t .m) (t .size) (zeros (t .zero))
+  tally-at-zero = at-zero (λ j. numbersOr before (countedOr j t)) after k r (told .number ∙ counted-number k t) (told .places)
+
+-- or the modulus
+module _ (k n before after r : ℕ) (told : LeastTold (leastOr k n) before after r) where
+  pub least-kept : r ≢ 0 → after ≡ before
+  least-kept = or-before (λ j. leastOrKept before (leastOr j n)) after k r (told .number ∙ least-number k n) (told .place) before (λ j. refl)
+
+  pub least-at-zero : r ≡ 0 → after ≡ n
+  least-at-zero = at-zero (λ j. leastOrKept before (leastOr j n)) after k r (told .number ∙ least-number k n) (told .place)
+
+-- one outcome: the number and the places
+pub counted-told-determined : (answer : Counted) (before after after′ : PlannerTally) (r r′ : ℕ) → CountedTold answer before after r → CountedTold answer before after′ r′ → (r ≡ r′) × (after ≡ after′)
+counted-told-determined answer before after after′ r r′ x y = (x .number ∙ sym (y .number), x .places ∙ sym (y .places))
+
+pub least-told-determined : (answer : Least) (before after after′ r r′ : ℕ) → LeastTold answer before after r → LeastTold answer before after′ r′ → (r ≡ r′) × (after ≡ after′)
+least-told-determined answer before after after′ r r′ x y = (x .number ∙ sym (y .number), x .place ∙ sym (y .place))

@@ -1,9 +1,8 @@
 -- Rows of a run of numbers that is written row by row: a row that is copied behind the first m rows is the next one (`row-joined`),
 -- and what stands before it stays (`rows-stay`); and where a row ends.
-use mathlib.Core.Path.{_≡_, refl, sym, _∙_, ap}
+use mathlib.Core.Path.{_≡_, sym, _∙_, ap}
 use mathlib.Core.List.{List, [], _∷_, _++_, append-assoc, List·Memᴰ, Memᴰ·cast}
-use Prim.Native.Nat.{ℕ, zero, suc, _+_, _-_, _*_, _<_, _≤_}
-use native.Mathlib.Nat.{suc-mul}
+use Prim.Native.Nat.{ℕ, suc, _+_, _-_, _*_, _<_, _≤_}
 use native.Mathlib.Numerals.{add-one}
 use native.Mathlib.Decide.{ℕ-discrete}
 use native.Mathlib.Omega.{arith}
@@ -13,7 +12,7 @@ use lib.Seq.{length-take-le, take-all, take-append-le, drop-append-le, take-at, 
 use Rattle.rank1.specs.Index.{rowsOf}
 use Rattle.rank1.specs.Axes.{ZeroFrom}
 use Rattle.rank1.proofs.Distinct.{member-at}
-use Rattle.rank1.proofs.IndexLaws.{row-fits, rows-length, part-length, row-at, rows-take, rows-snoc}
+use Rattle.rank1.proofs.IndexLaws.{row-fits, rows-length, part-length, row-at, rows-take, rows-snoc, rows-front}
 
 -- ---- parts of a run
 -- a part of a run is not moved by what comes behind it
@@ -33,12 +32,13 @@ part-before a n b xs ys l h =
 
 -- and so are the first rows not
 pub rows-before : (d m b : ℕ) (xs ys : List ℤ) → m * d ≤ b → b ≤ length xs → rowsOf d m (take b xs ++ ys) ≡ rowsOf d m xs
-rows-before d zero b xs ys l h = refl
-rows-before d (suc m) b xs ys l h =
-    rows-snoc d m (take b xs ++ ys)
-    ∙ ap (λ (ks : List (List ℤ)). ks ++ (take d (drop (m * d) (take b xs ++ ys)) ∷ [])) (rows-before d m b xs ys (omega (arith, suc-mul m d)) h)
-    ∙ ap (λ (k : List ℤ). rowsOf d m xs ++ (k ∷ [])) (part-before (m * d) d b xs ys (omega (arith, suc-mul m d)) h)
-    ∙ sym (rows-snoc d m xs)
+rows-before d m b xs ys l h =
+    rows-front d m (take b xs) ys room
+    ∙ sym (rows-front d m (take b xs) (drop b xs) room)
+    ∙ ap (rowsOf d m) (take-append-drop b xs)
+  where
+    room : m * d ≤ length (take b xs)
+    room = omega (arith, length-take-le b xs h)
 
 -- ---- a row that is copied behind the first m rows
 -- is the next one

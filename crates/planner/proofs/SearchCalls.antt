@@ -12,9 +12,10 @@ use Rattle.rank1.specs.Index.{indexList}
 use Rattle.rank1.specs.Rule.{Rule, Admissible}
 use Rattle.rank1.specs.Search.{First, NoPlan}
 use Rattle.rank1.specs.Valid.{ValidList, ValidModulus}
-use Rattle.rank1.specs.Refusal.{badPlan, badModulus, badPlaces, listConditions, searchRefusal}
+use Rattle.rank1.specs.Refusal.{firstOf, badPlan, badModulus, badPlaces, listConditions, tallyRefusal, searchRefusal}
 use Rattle.rank1.proofs.RefusalLaws.{firstOf-none, firstOf-none-append}
 use Rattle.rank1.proofs.ValidLaws.{plan-clear, places-clear, valid-list, valid-modulus}
+use Rattle.refusal.proofs.InputLaws.{list-stops, list-passes}
 use Rattle.planner.specs.Answer.{RefusedOr, FirstOrNone, SmallestOrNone, VectorSearch, SmallestSearch}
 use Rattle.planner.specs.Stage.{PlanBetween, SearchBetween}
 
@@ -53,7 +54,7 @@ pub record ValidSearch (plan d : ℕ) (xs : List ℤ) (n places : ℕ) : Type 0 
   pub modulus : ValidModulus n
   pub room : places ≡ d
 
-valid-search : (plan d : ℕ) (xs : List ℤ) (n places : ℕ) → searchRefusal plan d xs n places ≡ 0 → ValidSearch plan d xs n places
+pub valid-search : (plan d : ℕ) (xs : List ℤ) (n places : ℕ) → searchRefusal plan d xs n places ≡ 0 → ValidSearch plan d xs n places
 unfolding searchRefusal
 valid-search plan d xs n places none =
     let named = firstOf-none (badPlan plan) (listConditions plan d xs ++ (badModulus n ∷ badPlaces places d ∷ [])) .0 none in
@@ -65,6 +66,21 @@ valid-search plan d xs n places none =
       modulus = valid-modulus n (last .0);
       room = places-clear places d .0 (firstOf-none (badPlaces places d) [] .0 (last .1) .0);
     }
+
+-- ---- conditions 1 to 5, told by counting the list, and then 6 and 8
+module _ (plan d : ℕ) (xs : List ℤ) (n places : ℕ) where
+  abbrev range : List ℕ
+  range = badModulus n ∷ badPlaces places d ∷ []
+
+  -- one of 1 to 5 applies
+  pub refused-list : (k : ℕ) → k ≡ tallyRefusal plan d xs → (k ≡ 0 → ⊥) → k ≡ searchRefusal plan d xs n places
+  unfolding searchRefusal tallyRefusal
+  refused-list k e some = list-stops k (badPlan plan ∷ listConditions plan d xs) e range some
+
+  -- none does: 6 and 8 are left
+  pub refused-range : (k : ℕ) → tallyRefusal plan d xs ≡ 0 → k ≡ firstOf range → k ≡ searchRefusal plan d xs n places
+  unfolding searchRefusal tallyRefusal
+  refused-range k none e = list-passes 0 (badPlan plan ∷ listConditions plan d xs) (sym none) k range refl e
 
 -- ---- the moduli from low to high, behind the conditions: k is the number that these give
 module _ (plan d : ℕ) (xs : List ℤ) (low high : ℕ) (before : List ℕ) (k : ℕ) (told : k ≡ searchRefusal plan d xs high (length before)) where

@@ -111,7 +111,7 @@ module _ (plan d : ℕ) (xs : List ℤ) (n : ℕ) (before after : List ℕ) (r :
   vector-answer : VectorSearch plan d xs n before after r → FirstOrNone (Admissible plan (indexList d xs)) d n before after r
   vector-answer = answer-of before after r (searchRefusal plan d xs n (length before)) none
 
-  smallest-answer : SmallestSearch plan d xs n before after r → SmallestOrNone (Admissible plan (indexList d xs)) d n before after r
+  pub smallest-answer : SmallestSearch plan d xs n before after r → SmallestOrNone (Admissible plan (indexList d xs)) d n before after r
   smallest-answer = answer-of before after r (searchRefusal plan d xs n (length before)) none
 
   -- at n

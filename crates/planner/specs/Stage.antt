@@ -10,14 +10,16 @@ use lib.ListN.{length, getD, take, set}
 use Rattle.planner.specs.declared.Plan.{Plan}
 use Rattle.planner.specs.declared.Plan.the-variants as answer
 use Rattle.planner.specs.declared.search.Search.{Search}
+use Rattle.rank1.specs.declared.Tally.{Tally}
 use Rattle.rank1.specs.Residue.{residueAt}
 use Rattle.rank1.specs.Index.{indexList}
 use Rattle.rank1.specs.Rule.{Rule, Admissible}
+use Rattle.rank1.specs.Tally.{recount}
 use Rattle.rank1.specs.Search.{Before, InRange, First, FirstBelow, Hopeless}
 use Rattle.rank1.specs.Valid.{ValidList, ValidModulus}
 use Rattle.rank1.specs.Axes.{Agree}
 use Rattle.rank1.specs.Differences.{Sound}
-use Rattle.rank1.specs.Refusal.{searchRefusal}
+use Rattle.rank1.specs.Refusal.{searchRefusal, tallyRefusal}
 use Rattle.planner.specs.Answer.{RefusedOr}
 use Rattle.planner.specs.Sizes.{axes, lasts, room, places, productRoom, largestModulus, solutionRoom}
 use Rattle.planner.specs.Inner.{KeptBelow, Products, Covered}
@@ -273,6 +275,11 @@ pub record Ascended (rule : Rule) (d low high : ℕ) (x : List ℕ) (n : ℕ) : 
   pub smaller-fail : (n ≡ 0 → ⊥) → (m : ℕ) → low ≤ m → m < n → Hopeless rule d m
   pub none : n ≡ 0 → (m : ℕ) → low ≤ m → m ≤ high → Hopeless rule d m
 
+-- a list to which none of conditions 1 to 5 applies, and its record
+pub record Tallied (plan d : ℕ) (rows : List ℤ) (tally : Tally) : Type 0 where
+  pub clear : tallyRefusal plan d rows ≡ 0
+  pub counted : tally ≡ recount plan d (indexList d rows)
+
 -- what the search of a valid list asks: moduli from 1 to the largest, and a place for each component
 pub record Searchable (plan d : ℕ) (rows : List ℤ) (low high : ℕ) (z : List ℕ) : Type 0 where
   pub plans : plan ≤ 4
@@ -280,11 +287,6 @@ pub record Searchable (plan d : ℕ) (rows : List ℤ) (low high : ℕ) (z : Lis
   pub some : 1 ≤ low
   pub few : high ≤ largestModulus
   pub places-for-z : length z ≡ d
-
--- the moduli from low to before r are fewer than the rows, under plans 1 to 4
-pub record StartOf (plan count low r : ℕ) : Type 0 where
-  pub onward : low ≤ r
-  pub skipped : (m : ℕ) → low ≤ m → m < r → (plan ≢ 0) × (m < count)
 
 -- what the search of the moduli from start to end answers
 abbrev pub PlanBetween : Rule → ℕ → ℕ → ℕ → List ℕ → List ℕ → Plan → Type 0

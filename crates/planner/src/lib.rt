@@ -24,10 +24,11 @@ mod table;
 mod widths;
 
 use crate::sizes::PRODUCT_ROOM;
+use rank1::Tally;
 ghost use mathlib.Core.Path.{_≡_};
 ghost use Prim.Native.Nat.{_≤_};
 ghost use Rattle.planner.specs.Answer.{checkAnswer, ResidueMapCall, SpreadCall, GatherCall, PointListCall, refusalNumber, VectorSearch, SmallestSearch};
-ghost use Rattle.planner.specs.Stage.{SearchBetween};
+ghost use Rattle.planner.specs.Stage.{Tallied, SearchBetween};
 
 // What the check answers.
 pub enum Verdict {
@@ -137,16 +138,35 @@ pub fn refusal_of(answer: Plan) -> u8
     }
 }
 
-// Both searches: refused by a condition, or the first plan among the moduli from low to high.
+// Both searches of a valid list, with its record: refused by 6 or 8, or the first plan among the moduli from low to high.
+fn search_counted(
+    plan: u8,
+    d: usize,
+    rows: &[i16],
+    tally: Tally,
+    low: u16,
+    high: u16,
+    z: &mut [u16],
+) -> Plan
+    requires { ⌜ Tallied plan d (now rows) tally × (1 ≤ high → 1 ≤ low) ⌝ }
+    ensures { λ r. ⌜ SearchBetween plan d (now (rows .entry)) low high (now (z .entry)) (now (z .exit)) r ⌝ }
+{
+    let refused = refusals::range_refusal(d, high, z.len());
+    if refused != 0 {
+        return Plan::Refused(refused);
+    }
+    moduli::first_plan(plan, d, rows, tally, low, high, z)
+}
+
+// Both searches: the list is counted, or refused by 1 to 5, and the moduli from low to high are run.
 fn search_between(plan: u8, d: usize, rows: &[i16], low: u16, high: u16, z: &mut [u16]) -> Plan
     requires { ⌜ (1 ≤ high → 1 ≤ low) ⌝ }
     ensures { λ r. ⌜ SearchBetween plan d (now (rows .entry)) low high (now (z .entry)) (now (z .exit)) r ⌝ }
 {
-    let refused = refusals::search_refusal(plan, d, rows, high, z.len());
-    if refused != 0 {
-        return Plan::Refused(refused);
+    match lists::tally_list(plan, d, rows) {
+        lists::Counted::Kept(tally) => search_counted(plan, d, rows, tally, low, high, z),
+        lists::Counted::Refused(refused) => Plan::Refused(refused),
     }
-    moduli::first_plan(plan, d, rows, low, high, z)
 }
 
 // The first admissible vector at n in dictionary order.

@@ -6,36 +6,21 @@ use crate::products::sum_of;
 use crate::sizes::PLACES;
 ghost use mathlib.Core.Path.{_≡_};
 ghost use mathlib.Core.List.{_++_, map};
-ghost use Prim.Native.Nat.{ℕ, _+_, _*_, _%_, _^_, _≤_, _<_};
+ghost use Prim.Native.Nat.{ℕ, _+_, _*_, _%_, _≤_, _<_};
 ghost use lib.IntN.{pos};
 ghost use lib.ListN.{length, getD, take};
-ghost use lib.Count.{ones};
 ghost use Rattle.rank1.specs.Residue.{residueAt};
-ghost use Rattle.rank1.specs.Index.{mirrors, nonzeros};
+ghost use Rattle.rank1.specs.Index.{mirrors};
 ghost use Rattle.rank1.specs.Sums.{mirrorsUnder};
 ghost use Rattle.planner.specs.Sizes.{axes, mostMirrors, largestModulus};
 ghost use Rattle.planner.specs.Inner.{RowReady};
 
-// The axes on which a row is not 0, as bits.
-pub(crate) fn nonzero_mask(row: &[i16]) -> u32
-    requires { ⌜ length (now row) ≤ axes ⌝ }
-    ensures { λ r. ⌜ (ones r ≡ nonzeros (now (row .entry))) × (r < 2 ^ length (now (row .entry))) ⌝ }
-{
-    let mut mask: u32 = 0;
-    for j in 0..row.len() {
-        if row[j] != 0 {
-            mask |= 1 << j;
-        }
-    }
-    mask
-}
-
-// How many mirrors a row has: 2 to the number of its non-zero components.
+// How many mirrors a row has, as the loops over them ask (`lists` counts them).
 pub(crate) fn mirror_count(row: &[i16]) -> usize
     requires { ⌜ length (now row) ≤ axes ⌝ }
     ensures { λ r. ⌜ (r ≡ length (mirrors (now (row .entry)))) × (1 ≤ r) × (r ≤ mostMirrors) ⌝ }
 {
-    1 << u32::count_ones(nonzero_mask(row))
+    lists::mirror_count(row)
 }
 
 // The first count residues once more behind them, each with step added.

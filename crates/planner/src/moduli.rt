@@ -1,4 +1,4 @@
-// The moduli upward: at each one the tables of the modulus are set and the search is run. Moduli below the number of rows fail by
+// The moduli upward: at each one the tables of the modulus are set and the search is run. Moduli below the tally's bound fail by
 // counting, so the tables of the list are made only where a modulus is left.
 
 use crate::Plan;
@@ -15,15 +15,19 @@ use crate::sizes::LEVEL_ROOM;
 use crate::sizes::PRODUCT_ROOM;
 use crate::sizes::ROOM;
 use crate::sizes::SOLUTION_ROOM;
-use crate::widths::wide;
+use lists::Least;
+use lists::least_modulus;
+use rank1::Tally;
 ghost use mathlib.Core.Path.{_≡_};
-ghost use Prim.Native.Nat.{_≤_};
+ghost use Prim.Native.Nat.{_≤_, max};
 ghost use lib.ListN.{length};
 ghost use Rattle.rank1.specs.Index.{indexList};
 ghost use Rattle.rank1.specs.Rule.{Admissible};
+ghost use Rattle.rank1.specs.Tally.{recount, leastModulus};
+ghost use Rattle.rank1.specs.Refusal.{leastRefusal};
 ghost use Rattle.rank1.specs.Valid.{ValidModulus};
-ghost use Rattle.planner.specs.Sizes.{mostRows, largestModulus};
-ghost use Rattle.planner.specs.Stage.{listTables, modulusTables, work, ruleOf, Tabled, Roomy, Decided, Ascended, PlanBetween, StartOf, Searchable};
+ghost use Rattle.planner.specs.Sizes.{largestModulus};
+ghost use Rattle.planner.specs.Stage.{listTables, modulusTables, work, ruleOf, Tabled, Roomy, Decided, Ascended, PlanBetween, Searchable};
 
 // What the search of a list is about at every modulus: the plan, the number of axes, the largest size of a component of a row or of
 // a difference, the largest last component of a difference, and whether no difference was turned away.
@@ -245,30 +249,31 @@ fn search_list(plan: u8, d: usize, rows: &[i16], low: u16, high: u16, z: &mut [u
     Plan::Found(n)
 }
 
-// The first modulus from low on that counting lets through: under plans 1 to 4 one below the number of rows fails.
-fn start_of(plan: u8, count: usize, low: u16) -> u16
-    requires { ⌜ count ≤ mostRows ⌝ }
-    ensures { λ r. ⌜ StartOf plan count low r ⌝ }
+// The first modulus from low on that counting lets through: none below the tally's bound is worth trying.
+fn start_of(plan: u8, tally: Tally, low: u16) -> u16
+    requires { ⌜ leastRefusal plan tally ≡ 0 ⌝ }
+    ensures { λ r. ⌜ r ≡ max low (leastModulus plan tally) ⌝ }
 {
-    if plan == 0 {
-        return low;
+    match least_modulus(plan, tally) {
+        Least::Modulus(least) => { if low < least { least } else { low } }
+        Least::Refused(_) => low,
     }
-    if wide(low) < count { count as u16 } else { low }
 }
 
-// The first plan among the moduli from low to high for a valid list.
+// The first plan among the moduli from low to high for a valid list and its record.
 pub(crate) fn first_plan(
     plan: u8,
     d: usize,
     rows: &[i16],
+    tally: Tally,
     low: u16,
     high: u16,
     z: &mut [u16],
 ) -> Plan
-    requires { ⌜ Searchable plan d (now rows) low high (now z) ⌝ }
+    requires { ⌜ Searchable plan d (now rows) low high (now z) × (tally ≡ recount plan d (indexList d (now rows))) ⌝ }
     ensures { λ r. ⌜ PlanBetween (Admissible plan (indexList d (now (rows .entry)))) d low high (now (z .entry)) (now (z .exit)) r ⌝ }
 {
-    let start = start_of(plan, rows.len() / d, low);
+    let start = start_of(plan, tally, low);
     if high < start {
         return Plan::Refused(9);
     }

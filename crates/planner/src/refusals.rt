@@ -1,5 +1,5 @@
 // What the calls refuse, a function for each: the first of the conditions that concern its arguments, in document 01's order. (The
-// searches have 9 beside these.)
+// searches refuse 1 to 5 where they count the list, and have 9 beside these.)
 
 use crate::points::line_count;
 use crate::products::prepare_rows;
@@ -8,16 +8,16 @@ use crate::sizes::PRODUCT_ROOM;
 use crate::sums::all_gather;
 use refusal::axes_refusal;
 use refusal::list_pair_refusal;
-use refusal::list_refusal;
 use refusal::map_plan_refusal;
 use refusal::modulus_refusal;
 use refusal::pair_refusal;
 use refusal::places_refusal;
 use refusal::plan_refusal;
 ghost use mathlib.Core.Path.{_≡_};
+ghost use mathlib.Core.List.{[], _∷_};
 ghost use lib.ListN.{length};
 ghost use Rattle.rank1.specs.Index.{indexList};
-ghost use Rattle.rank1.specs.Refusal.{firstOf, tableConditions, inadmissible, ungatherable, checkRefusal, mapRefusal, spreadRefusal, gatherRefusal, pointRefusal, searchRefusal};
+ghost use Rattle.rank1.specs.Refusal.{firstOf, badModulus, badPlaces, tableConditions, inadmissible, ungatherable, checkRefusal, mapRefusal, spreadRefusal, gatherRefusal, pointRefusal};
 ghost use Rattle.rank1.specs.Valid.{ValidCall};
 
 // What the check refuses.
@@ -145,18 +145,10 @@ pub(crate) fn point_refusal(plan: u8, d: usize, n: u16, z: &[u16], places: usize
     places_refusal(places, line_count(plan, n) * d)
 }
 
-// What a search refuses before it searches, at the modulus n or up to the ceiling n, with the places lent for the vector.
-pub(crate) fn search_refusal(plan: u8, d: usize, rows: &[i16], n: u16, places: usize) -> u8
-    ensures { λ r. ⌜ r ≡ searchRefusal plan d (now (rows .entry)) n places ⌝ }
+// What a search refuses of the modulus n, or the ceiling n, and of the places lent for the vector: 6, and then 8.
+pub(crate) fn range_refusal(d: usize, n: u16, places: usize) -> u8
+    ensures { λ r. ⌜ r ≡ firstOf (badModulus n ∷ badPlaces places d ∷ []) ⌝ }
 {
-    let named = plan_refusal(plan);
-    if named != 0 {
-        return named;
-    }
-    let list = list_refusal(plan, d, rows);
-    if list != 0 {
-        return list;
-    }
     let modulus = modulus_refusal(n);
     if modulus != 0 {
         return modulus;

@@ -4,7 +4,6 @@
 
 use crate::mirrors::mirror_count;
 use crate::mirrors::mirror_residues;
-use crate::mirrors::nonzero_mask;
 use crate::products::prepare_rows;
 use crate::products::row_at;
 use crate::products::row_residue;
@@ -12,6 +11,7 @@ use crate::sizes::LARGEST_MODULUS;
 use crate::sizes::MOST_MIRRORS;
 use crate::sizes::PRODUCT_ROOM;
 use crate::widths::wide;
+use lists::nonzero_mask;
 ghost use mathlib.Core.Path.{_≡_};
 ghost use mathlib.Core.Bool.{true, false};
 ghost use mathlib.Core.List.{List, map, List·Memᴰ};

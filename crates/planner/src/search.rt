@@ -4,7 +4,7 @@
 //
 // | prune | test | law |
 // |---|---|---|
-// | counting: fewer numbers than rows | moduli::start_of | few-hopeless |
+// | counting: the tally's bound | moduli::start_of | bound-hopeless (all-counted, rest-run) |
 // | rows that end early break the rule | ends_hold | prune-whole (ends-none) |
 // | scaling: a first component is 0 or divides n | cannot_lead | first-component (lead-passed) |
 // | interchangeable axes: components rise | lowest, marks of axes.rt | swap-first (low-passed) |

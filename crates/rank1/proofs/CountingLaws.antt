@@ -1,4 +1,4 @@
--- Under plans 1 to 4 the rows have different residues, so a modulus below the number of rows is hopeless.
+-- Under plans 1 to 4 the rows have different residues, so there are at most n of them.
 use mathlib.Core.Path.{refl, sym, subst}
 use mathlib.Core.Logic.{_≢_}
 use mathlib.Core.List.{List, map, List·Memᴰ, Memᴰ·of-map}
@@ -7,8 +7,7 @@ use native.Mathlib.Omega.{arith}
 use lib.IntN.{ℤ}
 use lib.ListN.{length, length-map}
 use Rattle.rank1.specs.Residue.{dot, residueAt}
-use Rattle.rank1.specs.Rule.{Reconstructs, PlanA, PlanB, PlanC, Rule, Admissible}
-use Rattle.rank1.specs.Search.{Hopeless}
+use Rattle.rank1.specs.Rule.{Reconstructs, PlanA, PlanB, PlanC, Admissible}
 use Rattle.rank1.specs.Valid.{Distinct}
 use Rattle.rank1.proofs.ResidueLaws.{residue-lt}
 use Rattle.rank1.proofs.Distinct.{distinct-map, pigeonhole}
@@ -24,22 +23,12 @@ rule-reconstructs (suc (suc (suc zero))) ks n z some r = λ k k′ m m′ d. r k
 rule-reconstructs (suc (suc (suc (suc zero)))) ks n z some r = λ k k′ m m′ d. r k′ k k m′ m (λ e. d (sym e)) (mirror-self k)
 rule-reconstructs (suc (suc (suc (suc (suc p))))) ks n z some r = absurd r
 
--- what counting asks of a rule: that it keeps different rows apart
-abbrev pub KeepsRows : List (List ℤ) → Rule → Type 0
-KeepsRows ks rule = (n : ℕ) (z : List ℤ) → rule n z → Reconstructs ks n z
+-- the residues of rows are below n
+pub residues-below : (n : ℕ) (z : List ℤ) (ks : List (List ℤ)) → 0 < n → (x : ℕ) → List·Memᴰ x (map (residueAt n z) ks) → x < n
+residues-below n z ks h x m = let s = Memᴰ·of-map (residueAt n z) ks m in subst (λ (y : ℕ). y < n) (s .2) (residue-lt n (dot (s .0) z) h)
 
-pub plan-keeps-rows : (plan : ℕ) (ks : List (List ℤ)) → plan ≢ 0 → KeepsRows ks (Admissible plan ks)
-plan-keeps-rows plan ks some n z r = rule-reconstructs plan ks n z some r
-
--- as many residues as rows
+-- so where they are different there are at most n rows
 pub rows-fit : (ks : List (List ℤ)) (n : ℕ) (z : List ℤ) → Distinct ks → 0 < n → Reconstructs ks n z → length ks ≤ n
 unfolding Reconstructs
 rows-fit ks n z d h r =
-    omega (arith, length-map ks (residueAt n z), pigeonhole n (map (residueAt n z) ks) (distinct-map (residueAt n z) ks d r) below)
-  where
-    below : (x : ℕ) → List·Memᴰ x (map (residueAt n z) ks) → x < n
-    below x m = let s = Memᴰ·of-map (residueAt n z) ks m in subst (λ (y : ℕ). y < n) (s .2) (residue-lt n (dot (s .0) z) h)
-
-pub few-hopeless : (rule : Rule) (d : ℕ) (ks : List (List ℤ)) (n : ℕ) → KeepsRows ks rule → Distinct ks → 0 < n → n < length ks → Hopeless rule d n
-unfolding Hopeless
-few-hopeless rule d ks n keeps distinct h l z e r = omega (arith, rows-fit ks n z distinct h (keeps n z r))
+    omega (arith, length-map ks (residueAt n z), pigeonhole n (map (residueAt n z) ks) (distinct-map (residueAt n z) ks d r) (residues-below n z ks h))

@@ -1,6 +1,6 @@
 -- The rows of a run of numbers: row i is the d numbers from place i × d on. How many rows there are, how long each is, which
 -- rows they are, and the rows up to a place and from it on.
-use mathlib.Core.Path.{_≡_, refl, sym, _∙_, ap, subst}
+use mathlib.Core.Path.{_≡_, refl, sym, _∙_, ap, ap₂, subst}
 use mathlib.Core.Logic.{⊎-elim}
 use mathlib.Core.List.{List, [], _∷_, _++_, List·Memᴰ, List·Memᴰ·not-nil, List·Memᴰ·cases-cons, Memᴰ·cast, Memᴰ·append-left, Memᴰ·append-right}
 use Prim.Native.Nat.{ℕ, zero, suc, _+_, _*_, _<_, _≤_}
@@ -8,7 +8,7 @@ use native.Mathlib.Nat.{add-comm, zero-mul, suc-mul, mul-le-mul-right}
 use native.Mathlib.Omega.{arith}
 use lib.IntN.{ℤ}
 use lib.ListN.{length, getD, take, drop, length-drop, take-append-drop}
-use lib.Seq.{length-take-le, drop-cons, drop-drop}
+use lib.Seq.{length-take-le, take-append-le, drop-append-le, drop-cons, drop-drop}
 use Rattle.rank1.specs.Index.{rowsOf, rowCount}
 use Rattle.rank1.proofs.Distinct.{member-at, Place, place-of}
 
@@ -94,3 +94,13 @@ rows-snoc d zero xs = ap (λ (k : List ℤ). take d k ∷ []) (sym (none-past d 
 rows-snoc d (suc i) xs =
     ap (λ (ks : List (List ℤ)). take d xs ∷ ks)
     (rows-snoc d i (drop d xs) ∙ ap (λ (k : List ℤ). rowsOf d i (drop d xs) ++ (take d k ∷ [])) (past d i xs))
+
+-- the first rows are not moved by what comes behind them
+pub rows-front : (d m : ℕ) (xs ys : List ℤ) → m * d ≤ length xs → rowsOf d m (xs ++ ys) ≡ rowsOf d m xs
+rows-front d zero xs ys l = refl
+rows-front d (suc m) xs ys l =
+    ap₂ (λ (a : List ℤ) (b : List (List ℤ)). a ∷ b) (take-append-le d xs ys fits)
+    (ap (rowsOf d m) (drop-append-le d xs ys fits) ∙ rows-front d m (drop d xs) ys (omega (arith, length-drop d xs, suc-mul m d)))
+  where
+    fits : d ≤ length xs
+    fits = omega (arith, suc-mul m d)

@@ -1,4 +1,4 @@
--- The laws of the definitions in specs/: numbers, lists, mirrors, the rules, the searches, the sums.
+-- The laws of the definitions in specs/: numbers, lists, mirrors, the rules, the searches, the sums, the tally.
 pub mod Whole
 pub mod Modulo
 pub mod ResidueLaws
@@ -32,3 +32,8 @@ pub mod SymmetryLaws
 pub mod SwapLaws
 pub mod FlipLaws
 pub mod DifferenceLaws
+pub mod NegativeLaws
+pub mod ZeroRowLaws
+pub mod BoundLaws
+pub mod LongerLaws
+pub mod TallyTrials

@@ -7,7 +7,7 @@ use mathlib.Core.List.{List, [], _∷_, map, List·Memᴰ, List·Memᴰ·head, L
 use Prim.Native.Nat.{ℕ, zero, suc, _+_, _*_, _<_, _≤_, zero-le}
 use native.Mathlib.Nat.{le-trans, mul-comm, mul-le-mul, suc-mul}
 use native.Mathlib.Omega.{arith}
-use borrow.Author.Tests.{eq-eqb, ne-eqb}
+use borrow.Author.Tests.{eq-eqb, ne-eqb, lt-leb, le-leb}
 use lib.Dec.{eqb, leb}
 use lib.IntN.{ℤ, pos, negsuc, natAbs, _+ℤ_, _*ℤ_, +ℤ-idl, +ℤ-idr, +ℤ-assoc, *ℤ-zero}
 use lib.Pow.{pow-mono}
@@ -22,7 +22,13 @@ use Rattle.rank1.proofs.MirrorLaws.{mirror-self, mirrors-length}
 use Rattle.rank1.proofs.CountLaws.{count-le, count-none, count-some, member-take}
 use Rattle.rank1.proofs.WholeSums.{total, total-none, total-add, total-mul, oneAt, total-oneAt, abs-add, abs-mul}
 
--- ---- S(k) under a plan
+-- ---- S(k) under a plan: the row alone, or its mirrors
+pub under-row : (plan : ℕ) (k : List ℤ) → plan < 2 → mirrorsUnder plan k ≡ k ∷ []
+under-row plan k l = ap (λ (b : Bool). cond b (mirrors k) (k ∷ [])) (lt-leb 2 plan l)
+
+pub under-mirrors : (plan : ℕ) (k : List ℤ) → 2 ≤ plan → mirrorsUnder plan k ≡ mirrors k
+under-mirrors plan k l = ap (λ (b : Bool). cond b (mirrors k) (k ∷ [])) (le-leb 2 plan l)
+
 -- k is in it
 pub under-self : (plan : ℕ) (k : List ℤ) → List·Memᴰ k (mirrorsUnder plan k)
 under-self plan k = either (leb 2 plan)

@@ -1,5 +1,5 @@
--- What the tests of specs/Tests.antt say: a test that is true is one that holds; every and some member of a list; equal rows;
--- a list in which two rows are equal.
+-- What the tests of specs/Tests.antt say: a test that is true is one that holds; every and some member of a list; equal rows, and
+-- one among others; equal records; a list in which two rows are equal.
 use mathlib.Core.Path.{_≡_, refl, sym, _∙_, ap, subst}
 use mathlib.Core.Logic.{_↔_, _≢_, ⊎-elim}
 use mathlib.Core.Bool.{Bool, true, false, not, _&&_, _||_}
@@ -9,7 +9,9 @@ use native.Mathlib.Omega.{arith}
 use lib.Dec.{T, eqb, eqb→eq, eqb-refl, T-not, not-T}
 use lib.IntN.{ℤ, pos, negsuc}
 use lib.ListN.{length, getD}
+use Rattle.rank1.specs.declared.Tally.{Tally}
 use Rattle.rank1.specs.Tests.{every, any, sameNumber, sameRow}
+use Rattle.rank1.specs.Tally.{sameFlag, sameTally}
 use Rattle.rank1.specs.Refusal.{repeats}
 use Rattle.rank1.specs.Valid.{Distinct}
 use Rattle.rank1.proofs.Distinct.{Place, place-of}
@@ -139,8 +141,30 @@ row-refl (x ∷ s) = joined (sameNumber x x) (sameRow s s) (number-refl x) (row-
 pub decides-row : (s t : List ℤ) → T (sameRow s t) ↔ (s ≡ t)
 decides-row s t = (row-yes s t, λ e. subst (λ (r : List ℤ). T (sameRow s r)) e (row-refl s))
 
+pub row-true : (s t : List ℤ) → (sameRow s t ≡ true) ↔ (s ≡ t)
+row-true s t = decided-true (sameRow s t) (decides-row s t)
+
 pub row-false : (s t : List ℤ) → (sameRow s t ≡ false) ↔ (s ≢ t)
 row-false s t = decided-false (sameRow s t) (decides-row s t)
+
+-- a row is one of a list
+among-yes : (k : List ℤ) (ks : List (List ℤ)) → T (any (sameRow k) ks) → List·Memᴰ k ks
+among-yes k [] h = absurd h
+among-yes k (l ∷ ks) h = go (sameRow k l) refl h (among-yes k ks)
+  where
+    go : (b : Bool) → sameRow k l ≡ b → T (b || any (sameRow k) ks) → (T (any (sameRow k) ks) → List·Memᴰ k ks) → List·Memᴰ k (l ∷ ks)
+    go true e t rest = List·Memᴰ·head (row-true k l .0 e)
+    go false e t rest = List·Memᴰ·tail (rest t)
+
+among-no : (k : List ℤ) (ks : List (List ℤ)) → List·Memᴰ k ks → T (any (sameRow k) ks)
+among-no k ks m = yes-or (any (sameRow k) ks) (λ e. row-false k k .0 (any-false (sameRow k) ks e k m) refl)
+  where
+    yes-or : (b : Bool) → (b ≡ false → ⊥) → T b
+    yes-or true h = tt
+    yes-or false h = h refl
+
+pub decides-among : (k : List ℤ) (ks : List (List ℤ)) → T (any (sameRow k) ks) ↔ List·Memᴰ k ks
+decides-among k ks = (among-yes k ks, among-no k ks)
 
 -- component by component: with equal first components the rest decides, with others the rows differ
 pub same-cons : (x y : ℤ) (s t : List ℤ) → x ≡ y → sameRow s t ≡ sameRow (x ∷ s) (y ∷ t)
@@ -148,6 +172,36 @@ same-cons x y s t e = sym (ap (λ (b : Bool). b && sameRow s t) (decided-true (s
 
 pub differ-cons : (x y : ℤ) (s t : List ℤ) → x ≢ y → sameRow (x ∷ s) (y ∷ t) ≡ false
 differ-cons x y s t o = ap (λ (b : Bool). b && sameRow s t) (decided-false (sameNumber x y) (decides-number x y) .1 o)
+
+-- ---- equal records
+flag-yes : (a b : Bool) → T (sameFlag a b) → a ≡ b
+flag-yes true true h = refl
+flag-yes true false h = absurd h
+flag-yes false true h = absurd h
+flag-yes false false h = refl
+
+flag-refl : (a : Bool) → T (sameFlag a a)
+flag-refl true = tt
+flag-refl false = tt
+
+pub decides-tally : (t u : Tally) → T (sameTally t u) ↔ (t ≡ u)
+decides-tally t u = (yes, (λ e. subst (λ (w : Tally). T (sameTally t w)) e same))
+  where
+    tally : ℕ → ℕ → Bool → Tally
+    tally m size zero = record { m = m; size = size; zero = zero }
+
+    same : T (sameTally t t)
+    same =
+        joined (eqb (t .m) (t .m)) (eqb (t .size) (t .size) && sameFlag (t .zero) (t .zero)) (eqb-refl (t .m))
+        (joined (eqb (t .size) (t .size)) (sameFlag (t .zero) (t .zero)) (eqb-refl (t .size)) (flag-refl (t .zero)))
+
+    yes : T (sameTally t u) → t ≡ u
+    yes h =
+        let a = both (eqb (t .m) (u .m)) (eqb (t .size) (u .size) && sameFlag (t .zero) (u .zero)) h in
+        let b = both (eqb (t .size) (u .size)) (sameFlag (t .zero) (u .zero)) (a .1) in
+        ap (λ (k : ℕ). tally k (t .size) (t .zero)) (eqb→eq (t .m) (u .m) (a .0))
+        ∙ ap (λ (k : ℕ). tally (u .m) k (t .zero)) (eqb→eq (t .size) (u .size) (b .0))
+        ∙ ap (tally (u .m) (u .size)) (flag-yes (t .zero) (u .zero) (b .1))
 
 -- ---- no two rows are equal
 pub repeats-distinct : (ks : List (List ℤ)) → repeats ks ≡ false → Distinct ks

@@ -12,16 +12,18 @@ use lib.Dec.{eqb, leb, ltb, leb→le, le→leb}
 use lib.IntN.{ℤ, pos, negsuc, natAbs}
 use lib.Signed.{ltZ}
 use lib.ListN.{length, getD}
+use Rattle.rank1.specs.declared.Tally.{Tally}
 use Rattle.rank1.specs.Tests.{every, any}
 use Rattle.rank1.specs.Index.{rowCount, indexList}
 use Rattle.rank1.specs.Rule.{Admissible}
 use Rattle.rank1.specs.RuleTest.{admissible}
 use Rattle.rank1.specs.Search.{InRange}
 use Rattle.rank1.specs.Sums.{gathers}
-use Rattle.rank1.specs.Refusal.{refuse, firstOf, within, outside, repeats, badPlan, badMapPlan, badAxes, badLength, badComponent, equalRows, badModulus, badVector, badPlaces, inadmissible, ungatherable, listConditions, pairConditions}
-use Rattle.rank1.specs.Valid.{Distinct, Nonnegative, ValidList, ValidModulus}
+use Rattle.rank1.specs.Tally.{sameTally}
+use Rattle.rank1.specs.Refusal.{refuse, firstOf, within, outside, repeats, badPlan, badMapPlan, badAxes, badLength, badRow, otherTally, badTally, badComponent, equalRows, badModulus, badVector, badPlaces, inadmissible, ungatherable, listConditions, pairConditions}
+use Rattle.rank1.specs.Valid.{Distinct, Nonnegative, ValidList, ValidModulus, ValidTally}
 use Rattle.rank1.proofs.Distinct.{member-at, Place, place-of}
-use Rattle.rank1.proofs.TestLaws.{false-fails, decided-true, decides-both, decides-eqb, either-false, neither, any-false, false-any, repeats-distinct, distinct-repeats}
+use Rattle.rank1.proofs.TestLaws.{false-fails, decided-true, decides-both, decides-eqb, decides-tally, either-false, neither, any-false, false-any, repeats-distinct, distinct-repeats}
 use Rattle.rank1.proofs.RuleTestLaws.{rule-true}
 use Rattle.rank1.proofs.IndexLaws.{component-in}
 use Rattle.rank1.proofs.RefusalLaws.{firstOf-none, refuse-none}
@@ -80,6 +82,25 @@ pub length-clear : (d : ℕ) (xs : List ℤ) → (badLength d xs ≡ 0) ↔ ((le
 length-clear d xs =
     clear 3 (not (eqb (length xs % d) 0) || ltb 512 (rowCount d xs)) (omega arith)
     (clear-or (not (eqb (length xs % d) 0)) (ltb 512 (rowCount d xs)) (clear-unequal (length xs % d) 0) (clear-ltb 512 (rowCount d xs)))
+
+pub row-clear : (d : ℕ) (row : List ℤ) → (badRow d row ≡ 0) ↔ (length row ≡ d)
+row-clear d row = clear 3 (not (eqb (length row) d)) (omega arith) (clear-unequal (length row) d)
+
+pub other-clear : (t counted : Tally) → (otherTally t counted ≡ 0) ↔ (t ≡ counted)
+other-clear t counted = clear 3 (not (sameTally t counted)) (omega arith) (clear-not (sameTally t counted) (decided-true (sameTally t counted) (decides-tally t counted)))
+
+pub tally-clear : (t : Tally) → (badTally t ≡ 0) ↔ ValidTally t
+tally-clear t = (
+  (λ e. let f = tests .0 e in record { few-rows = f .0; small = f .1 .0; some-row = f .1 .1 }),
+  (λ v. tests .1 (v .few-rows, (v .small, v .some-row))),
+)
+  where
+    tests : (badTally t ≡ 0) ↔ ((t .m ≤ 512) × ((t .size ≤ 64 * t .m) × (t .zero ≡ true → t .m ≢ 0)))
+    tests =
+        clear 3 (ltb 512 (t .m) || (ltb (64 * t .m) (t .size) || (t .zero && eqb (t .m) 0))) (omega arith)
+        (clear-or (ltb 512 (t .m)) (ltb (64 * t .m) (t .size) || (t .zero && eqb (t .m) 0)) (clear-ltb 512 (t .m))
+        (clear-or (ltb (64 * t .m) (t .size)) (t .zero && eqb (t .m) 0) (clear-ltb (64 * t .m) (t .size))
+        (clear-and (t .zero) (eqb (t .m) 0) ((λ e. e), (λ e. e)) (clear-eqb (t .m) 0))))
 
 -- a component in its range
 abbrev pub Ranged : ℕ → ℤ → Type 0

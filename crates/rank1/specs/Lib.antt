@@ -1,5 +1,5 @@
--- What a reader has to believe: the terms of document 01, a file for each of its sections, in its order; Tests has what they compute
--- with. Valid, Axes and Differences are cited by private functions alone. The laws of these definitions stand in proofs/.
+-- What a reader has to believe: the terms of document 01, a file for each of its sections, in its order, and of document 02 (Tally: b);
+-- Tests has what they compute with. Valid, Axes and Differences are cited by private functions alone. The laws of these definitions stand in proofs/.
 pub mod Tests
 pub mod Residue
 pub mod Index
@@ -8,6 +8,7 @@ pub mod RuleTest
 pub mod Search
 pub mod Sums
 pub mod Points
+pub mod Tally
 pub mod Refusal
 pub mod Valid
 pub mod Axes

@@ -1,5 +1,5 @@
 -- The refusal table (document 01): the conditions with their numbers, and for each call those that concern its arguments, in
--- its order. (9 is the searches' own: see Search.antt. 12 is the program's.)
+-- its order. (9 is the searches' own: see Search.antt. 12 is the program's.) What document 02 adds is marked with its letter.
 use mathlib.Core.Bool.{Bool, false, cond, not, _&&_, _||_}
 use mathlib.Core.List.{List, [], _∷_, _++_, map}
 use Prim.Native.Nat.{ℕ, zero, suc, _*_, _%_}
@@ -7,11 +7,13 @@ use lib.Dec.{eqb, leb, ltb}
 use lib.IntN.{ℤ, pos, natAbs}
 use lib.Signed.{ltZ}
 use lib.ListN.{length}
+use Rattle.rank1.specs.declared.Tally.{Tally}
 use Rattle.rank1.specs.Tests.{every, any, sameRow}
 use Rattle.rank1.specs.Index.{rowCount, indexList}
 use Rattle.rank1.specs.RuleTest.{admissible}
 use Rattle.rank1.specs.Sums.{gathers}
 use Rattle.rank1.specs.Points.{lineCount}
+use Rattle.rank1.specs.Tally.{recount, sameTally}
 
 -- a condition's number where it applies, else 0
 abbrev pub refuse : ℕ → Bool → ℕ
@@ -50,6 +52,18 @@ badAxes d = refuse 2 (not (within 1 6 d))
 -- 3: length no multiple of d, or more than 512 rows (02, a: a list of no rows is valid)
 abbrev pub badLength : ℕ → List ℤ → ℕ
 badLength d xs = refuse 3 (not (eqb (length xs % d) 0) || ltb 512 (rowCount d xs))
+
+-- 3 (02, b): a row to add is not d numbers
+abbrev pub badRow : ℕ → List ℤ → ℕ
+badRow d row = refuse 3 (not (eqb (length row) d))
+
+-- 3 (02, b): a record is not the list's recount
+abbrev pub otherTally : Tally → Tally → ℕ
+otherTally t counted = refuse 3 (not (sameTally t counted))
+
+-- 3 (02, b): a record with m over 512, a size over 64 × m, or a zero row at m = 0
+abbrev pub badTally : Tally → ℕ
+badTally t = refuse 3 (ltb 512 (t .m) || (ltb (64 * t .m) (t .size) || (t .zero && eqb (t .m) 0)))
 
 -- 4: a component outside its range
 abbrev pub badComponent : ℕ → List ℤ → ℕ
@@ -128,3 +142,22 @@ searchConditions plan d xs n = badPlan plan ∷ listConditions plan d xs ++ (bad
 unfoldable pub searchRefusal : ℕ → ℕ → List ℤ → ℕ → ℕ → ℕ
 searchRefusal plan d xs n places =
     firstOf (searchConditions plan d xs n ++ (badPlaces places d ∷ []))
+
+-- ---- the running tally (02, b)
+-- the record of a list: 1 2 3 4 5
+unfoldable pub tallyRefusal : ℕ → ℕ → List ℤ → ℕ
+tallyRefusal plan d xs = firstOf (badPlan plan ∷ listConditions plan d xs)
+
+-- a list with a row more: 2 to 5 as the longer list would, 3 also when the row is not d numbers
+abbrev pub longerConditions : ℕ → ℕ → List ℤ → List ℤ → List ℕ
+longerConditions plan d xs row =
+    badAxes d ∷ badRow d row ∷ badLength d (xs ++ row) ∷ badComponent plan (xs ++ row) ∷ equalRows d (xs ++ row) ∷ []
+
+-- adding a row: 1, those, and then 3 when the record is not the list's recount
+unfoldable pub addRefusal : ℕ → ℕ → List ℤ → Tally → List ℤ → ℕ
+addRefusal plan d xs t row =
+    firstOf (badPlan plan ∷ longerConditions plan d xs row ++ (otherTally t (recount plan d (indexList d xs)) ∷ []))
+
+-- the least modulus: 1 3
+unfoldable pub leastRefusal : ℕ → Tally → ℕ
+leastRefusal plan t = firstOf (badPlan plan ∷ badTally t ∷ [])

@@ -1,10 +1,13 @@
 -- Valid arguments in words: what holds where none of the conditions 1 to 7 of the refusal table applies. Private functions ask for
 -- these; proofs/ValidLaws.antt has that they follow from the conditions.
 use mathlib.Core.Path.{_≡_}
+use mathlib.Core.Logic.{_≢_}
+use mathlib.Core.Bool.{true}
 use mathlib.Core.List.{List, [], _∷_, List·Memᴰ}
 use Prim.Native.Nat.{ℕ, _*_, _≤_}
 use lib.IntN.{ℤ, pos, negsuc, natAbs}
 use lib.ListN.{length, getD}
+use Rattle.rank1.specs.declared.Tally.{Tally}
 use Rattle.rank1.specs.Index.{rowCount, indexList}
 use Rattle.rank1.specs.Search.{InRange}
 
@@ -40,3 +43,9 @@ pub record ValidCall (plan d : ℕ) (xs : List ℤ) (n : ℕ) (z : List ℕ) : T
   pub list : ValidList plan d xs
   pub modulus : ValidModulus n
   pub vector : InRange n d z
+
+-- a record (02, b): at most 512 rows, a size of at most 64 for each, and some row where the zero row is in
+pub record ValidTally (t : Tally) : Type 0 where
+  pub few-rows : t .m ≤ 512
+  pub small : t .size ≤ 64 * t .m
+  pub some-row : t .zero ≡ true → t .m ≢ 0

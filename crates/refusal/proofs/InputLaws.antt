@@ -1,10 +1,10 @@
 -- What the validation's loops and tests find, in the terms of the refusal table: a condition's number by its test, the first
 -- number of several, a component outside its range, and searches from the front, told by what is left of the list.
-use mathlib.Core.Path.{_≡_, refl, sym, _∙_, ap, subst}
+use mathlib.Core.Path.{_≡_, refl, sym, _∙_, ap, ap₂, subst}
 use mathlib.Core.Bool.{Bool, true, false, not, _&&_, _||_}
 use mathlib.Core.List.{List, [], _∷_, _++_}
 use Prim.Native.Nat.{ℕ, zero, suc, _+_, _*_, _-_, _^_, _<_, _≤_}
-use native.Mathlib.Nat.{suc-mul, sub-zero, add-zero}
+use native.Mathlib.Nat.{suc-mul, sub-zero, add-zero, add-sub-cancel-left}
 use native.Mathlib.Numerals.{add-one}
 use native.Mathlib.Omega.{arith}
 use borrow.Author.Tests.{ltb-true, ltb-false, lt-ltb, le-ltb, le-leb, lt-leb}
@@ -12,8 +12,8 @@ use borrow.Author.Needs.{sfits-of}
 use lib.Dec.{leb, ltb}
 use lib.IntN.{ℤ, pos, negsuc}
 use lib.Signed.{ltZ, mag}
-use lib.ListN.{length, getD, take, drop, drop-of-length-le}
-use lib.Seq.{drop-cons, drop-drop}
+use lib.ListN.{length, getD, take, drop, length-drop, drop-of-length-le}
+use lib.Seq.{drop-cons, drop-drop, length-take-le}
 use mir.Syntax.{w16}
 use mir.Val.{toZ, ofZ}
 use mir.Facts.{toZ-ofZ}
@@ -149,33 +149,31 @@ rest-none xs d a j l =
     let e : d - j ≡ 0 = omega arith in
     ap (λ (k : ℕ). take k (drop (a + j) xs)) e
 
--- the rows at places a and b agree from component j on
-abbrev pub sameRest : List ℤ → ℕ → ℕ → ℕ → ℕ → Bool
-sameRest xs d a b j = sameRow (rowRest xs d a j) (rowRest xs d b j)
+-- a row and the one at a place agree from component j on
+abbrev pub sameFrom : List ℤ → List ℤ → ℕ → ℕ → Bool
+sameFrom row xs at j = sameRow (drop j row) (rowRest xs (length row) at j)
 
 -- nothing passed; nothing left
-pub same-all : (xs : List ℤ) (d a b : ℕ) → sameRest xs d a b 0 ≡ sameRow (take d (drop a xs)) (take d (drop b xs))
-same-all xs d a b =
-    ap (λ (s : List ℤ). sameRow s (rowRest xs d b 0)) (rest-all xs d a) ∙ ap (sameRow (take d (drop a xs))) (rest-all xs d b)
+pub same-all : (row xs : List ℤ) (at : ℕ) → sameFrom row xs at 0 ≡ sameRow row (take (length row) (drop at xs))
+same-all row xs at = ap (sameRow row) (rest-all xs (length row) at)
 
-pub same-none : (xs : List ℤ) (d a b j : ℕ) → d ≤ j → sameRest xs d a b j ≡ true
-same-none xs d a b j l =
-    ap (λ (s : List ℤ). sameRow s (rowRest xs d b j)) (rest-none xs d a j l) ∙ ap (sameRow []) (rest-none xs d b j l)
+pub same-none : (row xs : List ℤ) (at j : ℕ) → length row ≤ j → sameFrom row xs at j ≡ true
+same-none row xs at j l = ap₂ sameRow (drop-of-length-le row l) (rest-none xs (length row) at j l)
 
 -- component j, and the rest
-module _ (xs : List ℤ) (d a b j : ℕ) (l : j < d) (p : a + d ≤ length xs) (q : b + d ≤ length xs) where
-  same-turn : sameRest xs d a b j ≡ sameRow (getD xs (a + j) (pos 0) ∷ rowRest xs d a (j + 1)) (getD xs (b + j) (pos 0) ∷ rowRest xs d b (j + 1))
+module _ (row xs : List ℤ) (at j : ℕ) (l : j < length row) (p : at + length row ≤ length xs) where
+  same-turn : sameFrom row xs at j ≡ sameRow (getD row j (pos 0) ∷ drop (j + 1) row) (getD xs (at + j) (pos 0) ∷ rowRest xs (length row) at (j + 1))
   same-turn =
-      ap (λ (s : List ℤ). sameRow s (rowRest xs d b j)) (rest-turn xs d a j l p)
-      ∙ ap (sameRow (getD xs (a + j) (pos 0) ∷ rowRest xs d a (j + 1))) (rest-turn xs d b j l q)
+      ap₂ sameRow (drop-cons row j (pos 0) l) (rest-turn xs (length row) at j l p)
+      ∙ sym (ap (λ (i : ℕ). sameRow (getD row j (pos 0) ∷ drop i row) (getD xs (at + j) (pos 0) ∷ rowRest xs (length row) at (j + 1))) (add-one j))
 
   -- component j differs
-  pub same-fails : (getD xs (a + j) (pos 0) ≡ getD xs (b + j) (pos 0) → ⊥) → sameRest xs d a b j ≡ false
-  same-fails h = same-turn ∙ differ-cons (getD xs (a + j) (pos 0)) (getD xs (b + j) (pos 0)) (rowRest xs d a (j + 1)) (rowRest xs d b (j + 1)) h
+  pub same-fails : (getD row j (pos 0) ≡ getD xs (at + j) (pos 0) → ⊥) → sameFrom row xs at j ≡ false
+  same-fails h = same-turn ∙ differ-cons (getD row j (pos 0)) (getD xs (at + j) (pos 0)) (drop (j + 1) row) (rowRest xs (length row) at (j + 1)) h
 
   -- component j is the same
-  pub same-more : getD xs (a + j) (pos 0) ≡ getD xs (b + j) (pos 0) → sameRest xs d a b (j + 1) ≡ sameRest xs d a b j
-  same-more h = same-cons (getD xs (a + j) (pos 0)) (getD xs (b + j) (pos 0)) (rowRest xs d a (j + 1)) (rowRest xs d b (j + 1)) h ∙ sym same-turn
+  pub same-more : getD row j (pos 0) ≡ getD xs (at + j) (pos 0) → sameFrom row xs at (j + 1) ≡ sameFrom row xs at j
+  same-more h = same-cons (getD row j (pos 0)) (getD xs (at + j) (pos 0)) (drop (j + 1) row) (rowRest xs (length row) at (j + 1)) h ∙ sym same-turn
 
 -- ---- the rows of a run, from the front: of m rows i are passed, and the next one starts at a place
 abbrev pub rowsLeft : List ℤ → ℕ → ℕ → ℕ → ℕ → List (List ℤ)
@@ -221,17 +219,31 @@ module _ (f : List ℤ → Bool) (xs : List ℤ) (d m at i : ℕ) (l : i < m) wh
       sym (ap (any f) (rows-turn xs d m at i l)
       ∙ or-skip (f (take d (drop at xs))) (any f (rowsLeft xs d m (at + d) (i + 1))) e)
 
--- two rows that are left are equal: the next one stands again after it, or two after it are
-module _ (xs : List ℤ) (d m at i : ℕ) (l : i < m) where
-  after : any (sameRow (take d (drop at xs))) (rowsOf d (m - i - 1) (drop (at + d) xs)) ≡ any (sameRow (take d (drop at xs))) (rowsLeft xs d m (at + d) (i + 1))
-  after = ap (λ (k : ℕ). any (sameRow (take d (drop at xs))) (rowsOf d k (drop (at + d) xs))) (rows-after m i)
+-- the next row as a part of the run, and its length
+module _ (xs : List ℤ) (d at : ℕ) where
+  pub part-row : take (at + d - at) (drop at xs) ≡ take d (drop at xs)
+  part-row = ap (λ (k : ℕ). take k (drop at xs)) (add-sub-cancel-left at d)
 
-  pub repeats-found : any (sameRow (take d (drop at xs))) (rowsOf d (m - i - 1) (drop (at + d) xs)) ≡ true → repeats (rowsLeft xs d m at i) ≡ true
+  pub part-long : at + d ≤ length xs → length (take (at + d - at) (drop at xs)) ≡ d
+  part-long h = ap length part-row ∙ length-take-le d (drop at xs) (omega (arith, length-drop at xs))
+
+-- two rows that are left are equal: the next one stands again after it, or two after it are
+module _ (xs : List ℤ) (d m at i : ℕ) (l : i < m) (h : at + d ≤ length xs) where
+  abbrev next : List ℤ
+  next = take (at + d - at) (drop at xs)
+
+  after : any (sameRow next) (rowsOf (length next) (m - i - 1) (drop (at + d) xs)) ≡ any (sameRow (take d (drop at xs))) (rowsLeft xs d m (at + d) (i + 1))
+  after =
+      ap (λ (k : ℕ). any (sameRow next) (rowsOf k (m - i - 1) (drop (at + d) xs))) (part-long xs d at h)
+      ∙ ap (λ (s : List ℤ). any (sameRow s) (rowsOf d (m - i - 1) (drop (at + d) xs))) (part-row xs d at)
+      ∙ ap (λ (k : ℕ). any (sameRow (take d (drop at xs))) (rowsOf d k (drop (at + d) xs))) (rows-after m i)
+
+  pub repeats-found : any (sameRow next) (rowsOf (length next) (m - i - 1) (drop (at + d) xs)) ≡ true → repeats (rowsLeft xs d m at i) ≡ true
   repeats-found e =
       ap repeats (rows-turn xs d m at i l)
       ∙ or-first (any (sameRow (take d (drop at xs))) (rowsLeft xs d m (at + d) (i + 1))) (repeats (rowsLeft xs d m (at + d) (i + 1))) (sym after ∙ e)
 
-  pub repeats-more : any (sameRow (take d (drop at xs))) (rowsOf d (m - i - 1) (drop (at + d) xs)) ≡ false → repeats (rowsLeft xs d m (at + d) (i + 1)) ≡ repeats (rowsLeft xs d m at i)
+  pub repeats-more : any (sameRow next) (rowsOf (length next) (m - i - 1) (drop (at + d) xs)) ≡ false → repeats (rowsLeft xs d m (at + d) (i + 1)) ≡ repeats (rowsLeft xs d m at i)
   repeats-more e =
       sym (ap repeats (rows-turn xs d m at i l)
       ∙ or-skip (any (sameRow (take d (drop at xs))) (rowsLeft xs d m (at + d) (i + 1))) (repeats (rowsLeft xs d m (at + d) (i + 1))) (sym after ∙ e))

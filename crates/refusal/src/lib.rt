@@ -1,13 +1,14 @@
 // Validation: the conditions 1 to 8 of document 01's refusal table, each written once. A refusal is a number, 0 for none.
 
 ghost use mathlib.Core.Path.{_≡_};
-ghost use mathlib.Core.List.{_++_};
+ghost use mathlib.Core.List.{List, [], _∷_, _++_};
 ghost use Prim.Native.Nat.{_+_, _*_, _≤_};
 ghost use lib.Dec.{leb};
+ghost use lib.IntN.{ℤ};
 ghost use lib.ListN.{length, take, drop};
 ghost use Rattle.rank1.specs.Tests.{any, sameRow};
 ghost use Rattle.rank1.specs.Index.{rowsOf};
-ghost use Rattle.rank1.specs.Refusal.{outside, repeats, firstOf, badPlan, badMapPlan, badAxes, badLength, badModulus, badVector, badPlaces, listConditions, pairConditions};
+ghost use Rattle.rank1.specs.Refusal.{outside, repeats, firstOf, badPlan, badMapPlan, badAxes, badRow, badLength, badModulus, badVector, badPlaces, listConditions, pairConditions, longerConditions};
 
 // Condition 4 of one component: larger than 255 in size, or negative for plans 2, 3 and 4.
 fn out_of_range(plan: u8, x: i16) -> bool
@@ -37,30 +38,30 @@ fn some_outside(plan: u8, rows: &[i16]) -> bool
     false
 }
 
-// Whether the d numbers from a on are those from b on.
-fn same_row(rows: &[i16], a: usize, b: usize, d: usize) -> bool
-    requires { ⌜ (a + d ≤ length (now rows)) × (b + d ≤ length (now rows)) ⌝ }
-    ensures { λ r. ⌜ r ≡ sameRow (take d (drop a (now (rows .entry)))) (take d (drop b (now (rows .entry)))) ⌝ }
+// Whether a row is the one that starts at a place of the rows.
+fn same_row(row: &[i16], rows: &[i16], at: usize) -> bool
+    requires { ⌜ at + length (now row) ≤ length (now rows) ⌝ }
+    ensures { λ r. ⌜ r ≡ sameRow (now (row .entry)) (take (length (now (row .entry))) (drop at (now (rows .entry)))) ⌝ }
 {
-    for j in 0..d {
-        if rows[a + j] != rows[b + j] {
+    for j in 0..row.len() {
+        if row[j] != rows[at + j] {
             return false;
         }
     }
     true
 }
 
-// Whether the row that starts at a is one of the m rows that start at b.
-fn stands_among(rows: &[i16], a: usize, b: usize, d: usize, m: usize) -> bool
-    requires { ⌜ (a + d ≤ length (now rows)) × (b + m * d ≤ length (now rows)) ⌝ }
-    ensures { λ r. ⌜ r ≡ any (sameRow (take d (drop a (now (rows .entry))))) (rowsOf d m (drop b (now (rows .entry)))) ⌝ }
+// Whether a row is one of the m rows that start at a place of the rows.
+fn stands_among(row: &[i16], rows: &[i16], start: usize, m: usize) -> bool
+    requires { ⌜ start + m * length (now row) ≤ length (now rows) ⌝ }
+    ensures { λ r. ⌜ r ≡ any (sameRow (now (row .entry))) (rowsOf (length (now (row .entry))) m (drop start (now (rows .entry)))) ⌝ }
 {
-    let mut at = b;
+    let mut at = start;
     for _i in 0..m {
-        if same_row(rows, a, at, d) {
+        if same_row(row, rows, at) {
             return true;
         }
-        at += d;
+        at += row.len();
     }
     false
 }
@@ -72,7 +73,7 @@ fn some_repeated(rows: &[i16], d: usize, m: usize) -> bool
 {
     let mut at = 0;
     for i in 0..m {
-        if stands_among(rows, at, at + d, d, m - i - 1) {
+        if stands_among(&rows[at..at + d], rows, at + d, m - i - 1) {
             return true;
         }
         at += d;
@@ -107,15 +108,15 @@ pub fn axes_refusal(d: usize) -> u8
     if 6 < d { 2 } else { 0 }
 }
 
-// Condition 3: a length that is no multiple of d, or more than 512 rows.
-fn length_refusal(d: usize, rows: &[i16]) -> u8
+// Condition 3 of as many numbers: no multiple of d, or more than 512 rows.
+fn length_refusal(d: usize, size: usize) -> u8
     requires { ⌜ 1 ≤ d ⌝ }
-    ensures { λ r. ⌜ r ≡ badLength d (now (rows .entry)) ⌝ }
+    ensures { λ r. ⌜ ((xs : List ℤ) → length xs ≡ size → r ≡ badLength d xs) ⌝ }
 {
-    if rows.len() % d != 0 {
+    if size % d != 0 {
         return 3;
     }
-    if 512 < rows.len() / d { 3 } else { 0 }
+    if 512 < size / d { 3 } else { 0 }
 }
 
 // Conditions 2 to 5 of a list.
@@ -126,7 +127,7 @@ pub fn list_refusal(plan: u8, d: usize, rows: &[i16]) -> u8
     if axes != 0 {
         return axes;
     }
-    let length = length_refusal(d, rows);
+    let length = length_refusal(d, rows.len());
     if length != 0 {
         return length;
     }
@@ -134,6 +135,39 @@ pub fn list_refusal(plan: u8, d: usize, rows: &[i16]) -> u8
         return 4;
     }
     if some_repeated(rows, d, rows.len() / d) {
+        return 5;
+    }
+    0
+}
+
+// Condition 3 of a list with a row more (document 02, b): the row is not d numbers, or the longer list has a wrong length.
+fn longer_length_refusal(d: usize, rows: &[i16], row: &[i16]) -> u8
+    requires { ⌜ (1 ≤ d) × (d ≤ 6) ⌝ }
+    ensures { λ r. ⌜ r ≡ firstOf (badRow d (now (row .entry)) ∷ badLength d (now (rows .entry) ++ now (row .entry)) ∷ []) ⌝ }
+{
+    if row.len() != d {
+        return 3;
+    }
+    length_refusal(d, rows.len() + d)
+}
+
+// Conditions 2 to 5 of a list with a row more.
+pub fn longer_refusal(plan: u8, d: usize, rows: &[i16], row: &[i16]) -> u8
+    ensures { λ r. ⌜ r ≡ firstOf (longerConditions plan d (now (rows .entry)) (now (row .entry))) ⌝ }
+{
+    let axes = axes_refusal(d);
+    if axes != 0 {
+        return axes;
+    }
+    let lengths = longer_length_refusal(d, rows, row);
+    if lengths != 0 {
+        return lengths;
+    }
+    if some_outside(plan, rows) | some_outside(plan, row) {
+        return 4;
+    }
+    let m = rows.len() / d;
+    if some_repeated(rows, d, m) | stands_among(row, rows, 0, m) {
         return 5;
     }
     0

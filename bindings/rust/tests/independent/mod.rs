@@ -1,7 +1,10 @@
-//! A planner written from the words of documents 01 and 02 alone, to hold the library against. It shares nothing with the crates and knows no
-//! shortcut: every residue is a sum of products, every rule goes pair by pair, and a search tries every vector.
+//! A planner written from the words of documents 01 and 02 alone, to hold the library against. It shares nothing with the crates and
+//! knows no shortcut: every residue is a sum of products, every rule goes pair by pair, M is a set of rows, and a search tries every
+//! vector at every modulus.
 //!
 //! A call answers with what it would write, or with the number of the refusal.
+
+use std::collections::BTreeSet;
 
 /// The number from 0 to n-1 that differs from h·z by a multiple of n.
 fn residue(h: &[i64], n: i64, z: &[i64]) -> i64 {
@@ -72,6 +75,33 @@ fn admissible(plan: u8, list: &[Vec<i64>], n: i64, z: &[i64]) -> bool {
     }
 }
 
+/// The record of a list: m, the size of M, and whether the zero row is in.
+pub type Record = (u32, u32, bool);
+
+/// The record of the list, counted from its rows. For plans 0 and 1 the size kept is m.
+fn recount(plan: u8, list: &[Vec<i64>]) -> Record {
+    let m = list.len();
+    let size = match plan {
+        0 | 1 => m,
+        _ => list.iter().flat_map(|k| mirrors(k)).collect::<BTreeSet<_>>().len(),
+    };
+    (m as u32, size as u32, list.iter().any(|k| k.iter().all(|&x| x == 0)))
+}
+
+/// The least modulus worth trying.
+fn bound(plan: u8, (m, size, zero): Record) -> u32 {
+    let others = m - u32::from(zero);
+    match plan {
+        0 if others > 0 => 2,
+        0 => 1,
+        2 if zero => size,
+        2 => size + 1,
+        3 if zero => 2 * m - 1,
+        3 => 2 * m + 1,
+        _ => m.max(1),
+    }
+}
+
 // The refusal table: the number where the condition applies.
 
 fn refuse(number: u8, applies: bool) -> Result<(), u8> {
@@ -86,7 +116,7 @@ fn refuse(number: u8, applies: bool) -> Result<(), u8> {
 fn the_list(plan: u8, zero_allowed: bool, d: usize, rows: &[i16]) -> Result<Vec<Vec<i64>>, u8> {
     refuse(1, plan > 4 || (plan == 0 && !zero_allowed))?;
     refuse(2, !(1..=6).contains(&d))?;
-    refuse(3, rows.len() % d != 0 || rows.len() / d > 512)?;
+    refuse(3, rows.chunks(d).any(|k| k.len() != d) || rows.len() / d > 512)?;
     let least = if plan >= 2 { 0 } else { -255 };
     refuse(4, rows.iter().any(|x| !(least..=255).contains(x)))?;
     let list: Vec<Vec<i64>> = rows.chunks(d).map(|k| k.iter().map(|&x| i64::from(x)).collect()).collect();
@@ -255,4 +285,24 @@ pub fn search_vector(plan: u8, d: usize, rows: &[i16], n: u16, places: usize) ->
 
 pub fn search_smallest(plan: u8, d: usize, rows: &[i16], ceiling: u16, places: usize) -> Result<(u16, Vec<u16>), u8> {
     search(plan, d, rows, 1, ceiling, places)
+}
+
+pub fn tally_list(plan: u8, d: usize, rows: &[i16]) -> Result<Record, u8> {
+    Ok(recount(plan, &the_list(plan, true, d, rows)?))
+}
+
+pub fn add_row(plan: u8, d: usize, rows: &[i16], tally: Record, row: &[i16]) -> Result<Record, u8> {
+    refuse(1, plan > 4)?;
+    refuse(2, !(1..=6).contains(&d))?;
+    refuse(3, row.len() != d)?;
+    let longer = the_list(plan, true, d, &[rows, row].concat())?;
+    refuse(3, tally != recount(plan, &longer[..longer.len() - 1]))?;
+    Ok(recount(plan, &longer))
+}
+
+pub fn least_modulus(plan: u8, tally: Record) -> Result<u16, u8> {
+    refuse(1, plan > 4)?;
+    let (m, size, zero) = tally;
+    refuse(3, m > 512 || u64::from(size) > 64 * u64::from(m) || (zero && m == 0))?;
+    Ok(bound(plan, tally) as u16)
 }

@@ -1,58 +1,39 @@
--- The mirrors of a row: their number by bits, and their residues by doubling, from the last axis to the first. A component that is
--- 0 leaves the residues as they are; any other puts them once more behind, each with twice the residue of the product with the
--- sign turned added. At the end: what S(k) stands for under a plan, and what a list of rows says of one row.
+-- The mirrors of a row: their residues by doubling, from the last axis to the first. A component that is 0 leaves the residues as they
+-- are; any other puts them once more behind, each with twice the residue of the product with the sign turned added. At the end: what a
+-- list of rows says of one row.
 use mathlib.Core.Path.{_≡_, refl, sym, _∙_, ap, subst}
-use mathlib.Core.Bool.{Bool, cond}
 use mathlib.Core.List.{List, [], _∷_, _++_, map, map-map, map-append, append-nil, append-assoc}
 use Prim.Native.Nat.{ℕ, zero, suc, _+_, _*_, _%_, _^_, _<_, _≤_}
 use native.Mathlib.Numerals.{add-one}
-use native.Mathlib.Nat.{pow-suc, add-zero}
+use native.Mathlib.Nat.{add-zero}
 use native.Mathlib.Omega.{arith}
 use lib.IntN.{ℤ, pos, negsuc, natAbs, negℤ, _+ℤ_, _-ℤ_, _*ℤ_, +ℤ-idl, +ℤ-invr, +ℤ-comm, +ℤ-assoc, *ℤ-zero}
 use lib.ListN.{length, getD, take, drop, set, length-map, length-drop, length-set, take-append-drop, List·getD-map, List·getD-append}
 use lib.Seq.{length-take-le, take-suc, take-suc-set, drop-cons, getD-take, getD-drop}
-use lib.Bits.{bitOr, or-shifted-r}
-use lib.Count.{ones, ones-cat, ones-ones}
-use lib.Dec.{lit<}
-use lib.Pow.{pow-mono, shl-exact}
+use lib.Pow.{pow-mono}
 use mir.Syntax.{w16}
 use mir.Val.{SFits, toZ, ofZ}
 use mir.Facts.{toZ-ofZ}
-use borrow.Author.Tests.{lt-leb, le-leb}
 use Rattle.rank1.specs.Residue.{residue, dot, residueAt}
-use Rattle.rank1.specs.Index.{signs, headed, mirrors, rowCount, nonzeros}
-use Rattle.rank1.specs.Sums.{mirrorsUnder}
+use Rattle.rank1.specs.Index.{signs, headed, mirrors, rowCount}
 use Rattle.rank1.specs.Axes.{ZeroFrom}
 use Rattle.rank1.proofs.Whole as W
 use Rattle.rank1.proofs.ResidueLaws.{residue-add, residue-lt}
 use Rattle.rank1.proofs.MirrorLaws.{mirrors-length}
+use Rattle.rank1.proofs.FlipLaws.{size-neg}
 use Rattle.rank1.proofs.IndexLaws.{part-length, row-in}
 use Rattle.rank1.proofs.SumLaws.{nonzeros-le}
 use Rattle.planner.specs.Sizes.{mostMirrors, largestSize, places}
 use Rattle.planner.specs.Inner.{place, RowReady, Ready}
 use Rattle.planner.proofs.products.ProductLaws.{small-fits, read-back, prepared-row}
 
--- ---- a component as the code tests and turns it
--- it is 0 where its bits are
-pub bits-zero : (x : ℤ) → SFits w16 x → ofZ w16 x ≡ 0 → x ≡ pos 0
-bits-zero x s e = sym (toZ-ofZ s) ∙ ap (toZ w16) e
-
-pub bits-other : (x : ℤ) → (ofZ w16 x ≡ 0 → ⊥) → x ≡ pos 0 → ⊥
-bits-other x h e = h (ap (ofZ w16) e)
-
--- the sign does not change the size
-abs-neg : (x : ℤ) → natAbs (negℤ x) ≡ natAbs x
-abs-neg (pos zero) = refl
-abs-neg (pos (suc a)) = refl
-abs-neg (negsuc a) = refl
-
--- the sign turned: 0 - x, which fits
+-- ---- a component with its sign turned: 0 - x, which fits
 module _ (x : ℤ) (h : natAbs x ≤ largestSize) where
   minus : pos 0 -ℤ toZ w16 (ofZ w16 x) ≡ negℤ x
   minus = ap (λ (y : ℤ). pos 0 -ℤ y) (read-back x h) ∙ +ℤ-idl (negℤ x)
 
   neg-small : natAbs (negℤ x) ≤ largestSize
-  neg-small = omega (arith, abs-neg x)
+  neg-small = omega (arith, size-neg x)
 
   pub minus-fits : SFits w16 (pos 0 -ℤ toZ w16 (ofZ w16 x))
   minus-fits = subst (SFits w16) (sym minus) (small-fits (negℤ x) neg-small)
@@ -63,33 +44,7 @@ module _ (x : ℤ) (h : natAbs x ≤ largestSize) where
   pub minus-small : natAbs (toZ w16 (ofZ w16 (pos 0 -ℤ toZ w16 (ofZ w16 x)))) ≤ largestSize
   minus-small = omega (arith, ap natAbs minus-is, neg-small)
 
--- ---- how many components are not 0, by bits
-other-first : (x : ℤ) (k : List ℤ) → (x ≡ pos 0 → ⊥) → nonzeros (x ∷ k) ≡ nonzeros k + 1
-other-first (pos zero) k e = absurd (e refl)
-other-first (pos (suc a)) k e = sym (add-one (nonzeros k))
-other-first (negsuc a) k e = sym (add-one (nonzeros k))
-
--- component j counts where it is not 0
-module _ (k : List ℤ) (j : ℕ) (l : j < length k) where
-  pub nonzeros-zero : getD k j (pos 0) ≡ pos 0 → nonzeros (drop j k) ≡ nonzeros (drop (j + 1) k)
-  nonzeros-zero e = rw (add-one j, drop-cons k j (pos 0) l) (ap (λ (x : ℤ). nonzeros (x ∷ drop (suc j) k)) e)
-
-  pub nonzeros-other : (getD k j (pos 0) ≡ pos 0 → ⊥) → nonzeros (drop j k) ≡ nonzeros (drop (j + 1) k) + 1
-  nonzeros-other e = rw (add-one j, drop-cons k j (pos 0) l) (other-first (getD k j (pos 0)) (drop (suc j) k) e)
-
-pub pow-step : (j : ℕ) → 2 ^ (j + 1) ≡ 2 ^ j * 2
-pow-step j = ap (λ (x : ℕ). 2 ^ x) (add-one j) ∙ pow-suc 2 j
-
--- a mask of j bits, with bit j set: one bit more, and j + 1 bits
-mask-is : (m j : ℕ) → j < 32 → m < 2 ^ j → bitOr m (1 * 2 ^ j % 2 ^ 32) ≡ 1 * 2 ^ j + m
-mask-is m j l h = ap (bitOr m) (shl-exact 1 j 32 (lit< tt) (omega arith)) ∙ or-shifted-r 1 j m h
-
-pub mask-ones : (m j : ℕ) → j < 32 → m < 2 ^ j → ones (bitOr m (1 * 2 ^ j % 2 ^ 32)) ≡ ones m + 1
-mask-ones m j l h = omega (arith, ap ones (mask-is m j l h) ∙ ones-cat j 1 m h, ones-ones 1)
-
-pub mask-lt : (m j : ℕ) → j < 32 → m < 2 ^ j → bitOr m (1 * 2 ^ j % 2 ^ 32) < 2 ^ (j + 1)
-mask-lt m j l h = omega (arith, mask-is m j l h, pow-step j)
-
+-- ---- how many mirrors
 -- a row of at most m components has at most 2 ^ m mirrors
 pub mirrors-few : (k : List ℤ) (m : ℕ) → length k ≤ m → length (mirrors k) ≤ 2 ^ m
 mirrors-few k m l = subst (λ (i : ℕ). i ≤ 2 ^ m) (sym (mirrors-length k)) (pow-mono (omega (arith, nonzeros-le k)))
@@ -359,18 +314,11 @@ module _ {n : ℕ} {z : List ℕ} {k : List ℤ} {table : List ℕ} (ready : Row
     pub turned-product : getD table (j * places + place (negℤ (getD k j (pos 0)))) 0 ≡ residue n (negℤ (getD k j (pos 0)) *ℤ pos (getD z j 0))
     turned-product =
         ready .prepared .products .entry j (negℤ (getD k j (pos 0))) (omega (arith, s .inside))
-        (omega (arith, abs-neg (getD k j (pos 0)), ready .prepared .covers .covered j))
+        (omega (arith, size-neg (getD k j (pos 0)), ready .prepared .covers .covered j))
 
   -- at axis 0: all mirrors
   pub doubling-end : {out : List ℕ} {count : ℕ} → Doubling n z k out count 0 → take (length (mirrors k)) out ≡ map (residueAt n (map pos z)) (mirrors k)
   doubling-end {out} s = ap (λ (i : ℕ). take i out) (sym (s .number)) ∙ s .residues
-
--- ---- S(k) under a plan: the row alone, or its mirrors
-pub under-row : (plan : ℕ) (k : List ℤ) → plan < 2 → mirrorsUnder plan k ≡ k ∷ []
-under-row plan k l = ap (λ (b : Bool). cond b (mirrors k) (k ∷ [])) (lt-leb 2 plan l)
-
-pub under-mirrors : (plan : ℕ) (k : List ℤ) → 2 ≤ plan → mirrorsUnder plan k ≡ mirrors k
-under-mirrors plan k l = ap (λ (b : Bool). cond b (mirrors k) (k ∷ [])) (le-leb 2 plan l)
 
 -- ---- what the residues of a row's mirrors ask holds for each row of a list
 module _ (d : ℕ) (xs : List ℤ) (n : ℕ) (z table : List ℕ) (i : ℕ) (r : Ready d xs n z table) (l : i < rowCount d xs) where

@@ -1,9 +1,9 @@
--- The moduli upward: what is set before a modulus is searched, what its search gives, those below the number of rows fail, and the
--- first that does not fail.
+-- The moduli upward: what is set before a modulus is searched, what its search gives, those below the tally's bound fail, and the first
+-- that does not fail.
 use mathlib.Core.Path.{_≡_, refl, sym, ap, _∙_, subst}
 use mathlib.Core.Bool.{Bool}
 use mathlib.Core.List.{List, map}
-use Prim.Native.Nat.{ℕ, _+_, _*_, _<_, _≤_}
+use Prim.Native.Nat.{ℕ, _+_, _*_, _<_, _≤_, max}
 use native.Mathlib.Nat.{zero-mod}
 use native.Mathlib.Decide.{decLt}
 use native.Mathlib.Omega.{arith}
@@ -13,19 +13,20 @@ use lib.ListN.{length, getD, take}
 use Rattle.planner.specs.declared.Plan.{Plan}
 use Rattle.planner.specs.declared.Plan.the-variants.{Found, Refused}
 use Rattle.planner.specs.declared.search.Search.{Search}
+use Rattle.rank1.specs.declared.Tally.{Tally}
 use Rattle.rank1.specs.Residue.{residueAt}
-use Rattle.rank1.specs.Index.{rowCount, indexList}
+use Rattle.rank1.specs.Index.{indexList}
 use Rattle.rank1.specs.Rule.{Rule, Admissible}
 use Rattle.rank1.specs.Search.{First, Hopeless}
+use Rattle.rank1.specs.Tally.{recount, leastModulus}
 use Rattle.rank1.specs.Valid.{ValidList, ValidModulus}
-use Rattle.rank1.proofs.IndexLaws.{rows-length}
-use Rattle.rank1.proofs.CountingLaws.{plan-keeps-rows, few-hopeless}
+use Rattle.rank1.proofs.BoundLaws.{valid-rows, bound-hopeless}
 use Rattle.rank1.proofs.RuleLaws.{Reduces}
 use Rattle.rank1.proofs.SearchLaws.{is-first, hopeless}
 use Rattle.planner.specs.Sizes.{lasts, room}
 use Rattle.planner.specs.Runs.{column}
 use Rattle.planner.specs.Sieve.{Tabulable, SolutionsOf}
-use Rattle.planner.specs.Stage.{ListTables, Tabled, ModulusTables, Work, Stage, KeptBefore, NoFirstFrom, Completed, Roomy, Decided, Ascended, PlanBetween, StartOf}
+use Rattle.planner.specs.Stage.{ListTables, Tabled, ModulusTables, Work, Stage, KeptBefore, NoFirstFrom, Completed, Roomy, Decided, Ascended, PlanBetween}
 use Rattle.planner.proofs.products.ProductLaws.{products-none}
 
 -- what the tables of a modulus ask
@@ -149,20 +150,19 @@ module _ (rule : Rule) (d low high : ℕ) (before : List ℕ) {x : List ℕ} {n 
   pub between-found : (after : List ℕ) → after ≡ x → Ascended rule d low high x n → (n ≡ 0 → ⊥) → PlanBetween rule d low high before after (Found n)
   between-found after e s f = (s .from-low f, s .to-high, subst (First rule d n) (sym e) (s .found f), s .smaller-fail f)
 
--- counting: moduli below the number of rows are passed over
-module _ (plan d low start high : ℕ) (rows : List ℤ) (list : ValidList plan d rows) (some : 1 ≤ low) (skip : StartOf plan (rowCount d rows) low start) where
-  counted : (m : ℕ) → low ≤ m → m < start → Hopeless (Admissible plan (indexList d rows)) d m
-  counted m l h =
-      let s = skip .skipped m l h in
-      few-hopeless (Admissible plan (indexList d rows)) d (indexList d rows) m (plan-keeps-rows plan (indexList d rows) (s .0)) (list .different) (omega arith)
-      (omega (arith, s .1, rows-length d (rowCount d rows) rows))
+-- counting: moduli below the tally's bound are passed over
+module _ (plan d low start high : ℕ) (rows : List ℤ) (tally : Tally) (list : ValidList plan d rows) (counted : tally ≡ recount plan d (indexList d rows)) (some : 1 ≤ low) (begins : start ≡ max low (leastModulus plan tally)) where
+  passed : (m : ℕ) → low ≤ m → m < start → Hopeless (Admissible plan (indexList d rows)) d m
+  passed m l h =
+      let below : m < leastModulus plan tally = omega (arith, begins) in
+      bound-hopeless plan d (indexList d rows) m (valid-rows plan d rows list) (omega arith) (subst (λ (t : Tally). m < leastModulus plan t) counted below)
 
   -- all of them are
   pub all-counted : (before : List ℕ) → high < start → PlanBetween (Admissible plan (indexList d rows)) d low high before before (Refused 9)
-  all-counted before none = (refl, refl, (λ m l h. counted m l (omega arith)))
+  all-counted before none = (refl, refl, (λ m l h. passed m l (omega arith)))
 
   -- and the others are run
   pub rest-run : (before after : List ℕ) (r : Plan) → PlanBetween (Admissible plan (indexList d rows)) d start high before after r → PlanBetween (Admissible plan (indexList d rows)) d low high before after r
   rest-run before after (Found n) p =
-      (omega (arith, skip .onward, p .0), p .1, p .2, (λ m l h. elim (decLt m start) [ yes e ↦ counted m l e | no e ↦ p .3 m (omega arith) h ]))
-  rest-run before after (Refused k) p = (p .0, p .1, (λ m l h. elim (decLt m start) [ yes e ↦ counted m l e | no e ↦ p .2 m (omega arith) h ]))
+      (omega (arith, begins, p .0), p .1, p .2, (λ m l h. elim (decLt m start) [ yes e ↦ passed m l e | no e ↦ p .3 m (omega arith) h ]))
+  rest-run before after (Refused k) p = (p .0, p .1, (λ m l h. elim (decLt m start) [ yes e ↦ passed m l e | no e ↦ p .2 m (omega arith) h ]))

@@ -3,16 +3,15 @@
 use mathlib.Core.Path.{_≡_, refl, sym, _∙_, ap, subst}
 use mathlib.Core.Bool.{Bool, true, false, true≢false}
 use mathlib.Core.Logic.{_↔_, _≢_, ⊎-elim}
-use mathlib.Core.List.{List, [], _∷_, map, List·Memᴰ, Memᴰ·cast}
-use Prim.Native.Nat.{ℕ, zero, suc, _*_, _/_, _<_, _≤_}
+use mathlib.Core.List.{List, [], map, List·Memᴰ, Memᴰ·cast}
+use Prim.Native.Nat.{ℕ, zero, suc, _*_, _<_, _≤_}
 use native.Mathlib.Nat.{zero-mod}
 use native.Mathlib.Omega.{arith}
-use lib.Count.{ones, ones-step, ones-ones}
-use lib.IntN.{ℤ, pos, negsuc}
+use lib.IntN.{ℤ, pos}
 use lib.ListN.{length, getD, take, drop, List·getD-map}
 use lib.Seq.{getD-take}
 use Rattle.rank1.specs.Residue.{dot, residueAt}
-use Rattle.rank1.specs.Index.{zeroRow, mirrors, rowCount, indexList, nonzeros}
+use Rattle.rank1.specs.Index.{zeroRow, mirrors, rowCount, indexList}
 use Rattle.rank1.specs.Rule.{Integrates, Reconstructs, PlanB, PlanC, Admissible}
 use Rattle.rank1.specs.Valid.{Distinct, Nonnegative}
 use Rattle.rank1.proofs.ResidueLaws.{residue-lt}
@@ -139,35 +138,7 @@ module _ (d : ℕ) (xs : List ℤ) (i : ℕ) (l : i < rowCount d xs) (k : List �
   pub residue-number : (n : ℕ) (z : List ℕ) (r : ℕ) → r ≡ residueAt n (map pos z) k → r ≡ residueOf n z (indexList d xs) i
   residue-number n z r q = q ∙ ap (residueAt n (map pos z)) row-number
 
--- ---- plan 0: rows that are 0 by the number of their non-zero components, counted as the ones of a mask
--- a row without non-zero components is the zero row
-zero-row : (k : List ℤ) → nonzeros k ≡ 0 → k ≡ zeroRow (length k)
-zero-row [] e = refl
-zero-row (pos zero ∷ k) e = ap (λ (s : List ℤ). pos 0 ∷ s) (zero-row k e)
-zero-row (pos (suc a) ∷ k) e = absurd (omega arith)
-zero-row (negsuc a ∷ k) e = absurd (omega arith)
-
--- the zero row has no others
-zeros-none : (d : ℕ) → nonzeros (zeroRow d) ≡ 0
-zeros-none zero = refl
-zeros-none (suc d) = zeros-none d
-
--- a number with no ones is 0
-no-ones : (bound r : ℕ) → r ≤ bound → ones r ≡ 0 → r ≡ 0
-no-ones zero r l e = omega arith
-no-ones (suc bound) r l e = omega (arith, ones-step r, no-ones bound (r / 2) (half bound r l) (omega (arith, ones-step r)))
-  where
-    half : (b s : ℕ) → s ≤ suc b → s / 2 ≤ b
-    half b s m = omega arith
-
-module _ (k : List ℤ) (mask : ℕ) (count : ones mask ≡ nonzeros k) where
-  -- the row is 0 just where the mask is
-  pub mask-none : mask ≡ 0 → k ≡ zeroRow (length k)
-  mask-none e = zero-row k (sym count ∙ ap ones e ∙ ones-ones 0)
-
-  pub mask-some : mask ≢ 0 → k ≢ zeroRow (length k)
-  mask-some some e = some (no-ones mask mask (omega arith) (count ∙ ap nonzeros e ∙ zeros-none (length k)))
-
+-- ---- plan 0
 module _ (d : ℕ) (xs : List ℤ) (n : ℕ) (z : List ℕ) (i : ℕ) (l : i < rowCount d xs) (k : List ℤ) (e : k ≡ take d (drop (i * d) xs)) where
   -- row i has a residue other than 0, or is the zero row
   pub row-integrates : (k ≢ zeroRow (length k) → residueAt n (map pos z) k ≢ 0) → RowIntegrates (indexList d xs) n (map pos z) i

@@ -1,38 +1,52 @@
--- `planner::search_between` meets its contract: a refusal is the number of the first condition that applies; past it the arguments are
--- valid, and the moduli from low to high are run.
+-- `planner::search_between` meets its contract: a refusal of the list is one of the search (refused-list); else the list is counted, and
+-- the search of the counted list answers.
+use mathlib.Core.Path.{sym, _∙_}
+use lib.ListN.{length}
 use borrow.Author.Needs.{needs}
-use Rattle.planner.proofs.SearchCalls.{between-refused, between-valid, between-answered}
+use Rattle.lists.proofs.AnswerLaws.{tally-kept-is, tally-refused-is}
+use Rattle.planner.proofs.SearchCalls.{refused-list, between-refused}
 use Rattle.planner.proofs.search_between.Statement.{statement}
 use Rattle.planner.proofs.search_between.Tie as tie
 
-search-refusal-requires : tie.Need-search-refusal-requires
-search-refusal-requires c κs = search needs
+tally-list-requires : tie.Need-tally-list-requires
+tally-list-requires c κs = search needs
 
-returns : tie.Need-returns
-returns c =
-    let s = c .before .before .before .args in
-    let refused = c .before .search-refusal in
-    between-refused (s .plan) (s .d) (s .rows .now) (s .low) (s .high) (s .z .now) (refused .result) (refused .ensures) (c .if1 .taken)
+enum-known-tally : tie.Need-enum-known-tally
+enum-known-tally c = search needs
 
-first-plan-requires : tie.Need-first-plan-requires
-first-plan-requires c κs =
-    let start = c .before .before .before .before in
-    let s = start .args in
-    let refused = c .before .before .search-refusal in
-    let v = between-valid (s .plan) (s .d) (s .rows .now) (s .low) (s .high) (s .z .now) (refused .result) (refused .ensures) (c .before .if1 .left) in
-    record { plans = v .plans; list = v .list; some = start .pre (v .modulus .low); few = v .modulus .high; places-for-z = v .room }
+search-counted-requires : tie.Need-search-counted-requires
+search-counted-requires c κs =
+    let call = c .before .before .before .before in
+    let a = call .before .before .args in
+    let kept = tally-kept-is (a .plan) (a .d) (a .rows .now) (c .before .before .tally .given .0 .0) (sym (c .before .before .tally .given .1) ∙ call .tally-list .ensures) in
+    (record { clear = kept .0; counted = kept .1 }, call .before .before .pre)
+
+enum-known-refused : tie.Need-enum-known-refused
+enum-known-refused c = search needs
 
 same-length : tie.Need-same-length
 same-length c = search needs
 
+returns : tie.Need-returns
+returns c = search needs
+
 returns-2 : tie.Need-returns-2
 returns-2 c =
-    let call = c .before .before in
-    let passed = call .before .before in
-    let s = passed .before .before .before .args in
-    let refused = passed .before .search-refusal in
-    between-answered (s .plan) (s .d) (s .rows .now) (s .low) (s .high) (s .z .now) (refused .result) (refused .ensures) (passed .if1 .left) _ (call .first-plan .result) (call .first-plan .ensures)
+    let call = c .before .before .before in
+    let a = call .before .before .args in
+    let r = tally-refused-is (a .plan) (a .d) (a .rows .now) (c .before .refused .given .0 .0) (sym (c .before .refused .given .1) ∙ call .tally-list .ensures) in
+    between-refused (a .plan) (a .d) (a .rows .now) (a .low) (a .high) (a .z .now) (c .before .refused .given .0 .0)
+    (refused-list (a .plan) (a .d) (a .rows .now) (a .high) (length (a .z .now)) (c .before .refused .given .0 .0) (r .0) (λ e. r .1 (sym (r .0) ∙ e)))
+    (λ e. r .1 (sym (r .0) ∙ e))
 
 pub search-between-spec : {M : Type 1} → statement M
 search-between-spec =
-    tie.close (tie.spec search-refusal-requires returns first-plan-requires same-length returns-2)
+    tie.close
+    (tie.spec
+    tally-list-requires
+    enum-known-tally
+    search-counted-requires
+    enum-known-refused
+    same-length
+    returns
+    returns-2)

@@ -40,7 +40,7 @@ past-length c r e =
     let s = c .before .before .before .before .args in
     let t = c .before .length-refusal in
     past-axes (c .before .before) r
-    (passes (t .result) (badLength (s .d) (s .rows .now)) (t .ensures) r
+    (passes (t .result) (badLength (s .d) (s .rows .now)) (t .ensures (s .rows .now) refl) r
     (badComponent (s .plan) (s .rows .now) ∷ equalRows (s .d) (s .rows .now) ∷ [])
     (c .if2 .left) e)
 
@@ -68,7 +68,7 @@ returns-2 c =
     let s = c .before .before .before .before .args in
     let t = c .before .length-refusal in
     past-axes (c .before .before) (t .result)
-    (stops (t .result) (badLength (s .d) (s .rows .now)) (t .ensures)
+    (stops (t .result) (badLength (s .d) (s .rows .now)) (t .ensures (s .rows .now) refl)
     (badComponent (s .plan) (s .rows .now) ∷ equalRows (s .d) (s .rows .now) ∷ [])
     (c .if2 .taken))
 

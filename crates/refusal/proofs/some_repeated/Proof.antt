@@ -1,12 +1,12 @@
 -- `refusal::some_repeated` meets its contract. The invariant: the rows that are left lie within the run, and two of them are
 -- equal just where two of all m are. Measure: the rows left.
-use mathlib.Core.Path.{_≡_, sym, _∙_, ap}
-use Prim.Native.Nat.{_≤_, _-_, _+_, _*_, zero-le}
+use mathlib.Core.Path.{_≡_, sym, _∙_, ap, subst}
+use Prim.Native.Nat.{ℕ, _≤_, _-_, _+_, _*_, zero-le}
 use native.Mathlib.Omega.{arith}
 use lib.ListN.{length}
 use Rattle.rank1.specs.Index.{rowsOf}
 use Rattle.rank1.specs.Refusal.{repeats}
-use Rattle.refusal.proofs.InputLaws.{rowsLeft, rows-all, rows-none, repeats-found, repeats-more, room-all, room-turn, rows-after}
+use Rattle.refusal.proofs.InputLaws.{rowsLeft, rows-all, rows-none, part-long, repeats-found, repeats-more, room-all, room-turn, rows-after}
 use borrow.Author.Needs.{needs}
 use Rattle.refusal.proofs.some_repeated.Statement.{statement}
 use Rattle.refusal.proofs.some_repeated.Tie as tie
@@ -36,25 +36,44 @@ room c =
 add-stands-among : tie.Need-add-stands-among Inv-loop μ-loop
 add-stands-among c = omega (arith, room c)
 
+mul-stands-among : tie.Need-mul-stands-among Inv-loop μ-loop
+mul-stands-among c = search (needs, room c)
+
 sub-stands-among : tie.Need-sub-stands-among Inv-loop μ-loop
-sub-stands-among c = search needs
+sub-stands-among c = omega arith
+
+part-stands-among-start : tie.Need-part-stands-among-start Inv-loop μ-loop
+part-stands-among-start c = omega arith
+
+part-stands-among-end : tie.Need-part-stands-among-end Inv-loop μ-loop
+part-stands-among-end c = omega (arith, room c)
+
+add-stands-among-2 : tie.Need-add-stands-among-2 Inv-loop μ-loop
+add-stands-among-2 c = omega (arith, room (c .before))
 
 sub-stands-among-2 : tie.Need-sub-stands-among-2 Inv-loop μ-loop
 sub-stands-among-2 c = search needs
 
+sub-stands-among-3 : tie.Need-sub-stands-among-3 Inv-loop μ-loop
+sub-stands-among-3 c = search needs
+
 stands-among-requires : tie.Need-stands-among-requires Inv-loop μ-loop
 stands-among-requires c κs =
-    (omega (arith, room c), rw (rows-after (c .before .before .args .m) (c .before .loop .i)) (room c))
+    let s = c .before .before .before .args in
+    let l = c .before .before .loop in
+    subst (λ (k : ℕ). l .at + s .d + (s .m - l .i - 1) * k ≤ length (s .rows .now))
+    (sym (part-long (s .rows .now) (s .d) (l .at) (omega (arith, room (c .before)))))
+    (rw (rows-after (s .m) (l .i)) (room (c .before)))
 
 returns : tie.Need-returns Inv-loop μ-loop
 returns c =
-    let s = c .before .before .before .before .args in
-    let l = c .before .before .before .loop in
-    sym (repeats-found (s .rows .now) (s .d) (s .m) (l .at) (l .i) (omega arith) (sym (c .before .stands-among .ensures) ∙ c .if1 .taken))
+    let s = c .before .before .before .before .before .args in
+    let l = c .before .before .before .before .loop in
+    sym (repeats-found (s .rows .now) (s .d) (s .m) (l .at) (l .i) (omega arith) (omega (arith, room (c .before .before .before))) (sym (c .before .stands-among .ensures) ∙ c .if1 .taken))
     ∙ l .inv .2
 
 add-at : tie.Need-add-at Inv-loop μ-loop
-add-at c = omega (arith, room (c .before .before))
+add-at c = omega (arith, room (c .before .before .before))
 
 add-i : tie.Need-add-i Inv-loop μ-loop
 add-i c = search needs
@@ -64,11 +83,11 @@ loop-less c = search needs
 
 loop-again : tie.Need-loop-again Inv-loop μ-loop
 loop-again c =
-    let s = c .before .before .before .before .args in
-    let l = c .before .before .before .loop in (
+    let s = c .before .before .before .before .before .args in
+    let l = c .before .before .before .before .loop in (
       omega arith,
-      room (c .before .before),
-      repeats-more (s .rows .now) (s .d) (s .m) (l .at) (l .i) (omega arith) (sym (c .before .stands-among .ensures) ∙ c .if1 .left)
+      room (c .before .before .before),
+      repeats-more (s .rows .now) (s .d) (s .m) (l .at) (l .i) (omega arith) (omega (arith, room (c .before .before .before))) (sym (c .before .stands-among .ensures) ∙ c .if1 .left)
           ∙ l .inv .2,
     )
 
@@ -86,8 +105,13 @@ some-repeated-spec =
     μ-loop
     loop-holds
     add-stands-among
+    mul-stands-among
     sub-stands-among
+    part-stands-among-start
+    part-stands-among-end
+    add-stands-among-2
     sub-stands-among-2
+    sub-stands-among-3
     stands-among-requires
     returns
     add-at

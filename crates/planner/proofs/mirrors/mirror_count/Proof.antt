@@ -1,38 +1,23 @@
--- `mirrors::mirror_count`: at most a bit for each axis is set, so the shift is exact, and it is the number of mirrors (`mirrors-length`).
-use mathlib.Core.Path.{sym, _∙_, ap}
-use Prim.Native.Nat.{ℕ, _^_, _≤_}
-use native.Mathlib.Nat.{one-mul, le-trans}
+-- `mirrors::mirror_count`: of a row with at most six components all count (on-axes), and it has 1 to 64 mirrors.
+use mathlib.Core.Path.{_≡_, _∙_, ap}
 use native.Mathlib.Omega.{arith}
+use lib.ListN.{length}
+use Rattle.rank1.specs.Index.{mirrors}
+use Rattle.rank1.proofs.MirrorLaws.{mirrors-some}
+use Rattle.rank1.proofs.SumLaws.{under-length}
+use Rattle.lists.proofs.MaskLaws.{on-axes}
 use borrow.Author.Needs.{needs}
-use lib.Count.{ones, ones-le}
-use lib.Dec.{lit<}
-use lib.Pow.{shl-exact, pow-mono, pow-pos}
-use Rattle.rank1.proofs.MirrorLaws.{mirrors-length}
-use Rattle.planner.specs.Sizes.{axes}
 use Rattle.planner.proofs.mirrors.mirror_count.Statement.{statement}
 use Rattle.planner.proofs.mirrors.mirror_count.Tie as tie
 
-nonzero-mask-requires : tie.Need-nonzero-mask-requires
-nonzero-mask-requires c κs = search needs
-
--- the mask has at most a bit for each axis
-few : (c : tie.After-nonzero-mask) → ones (c .nonzero-mask .result) ≤ axes
-few c = le-trans (ones-le _ (c .nonzero-mask .result) (c .nonzero-mask .ensures .1)) (c .before .pre)
-
-cast-result : tie.Need-cast-result
-cast-result c = omega (arith, few c)
-
-shl-result : tie.Need-shl-result
-shl-result c = omega (arith, few c)
+mirror-count-requires : tie.Need-mirror-count-requires
+mirror-count-requires c κs = search needs
 
 returns : tie.Need-returns
 returns c =
-    let k = ones (c .nonzero-mask .result) in
-    let exact = shl-exact 1 k 64 (lit< tt) (omega (arith, few c)) ∙ one-mul (2 ^ k) in (
-      exact ∙ ap (λ (x : ℕ). 2 ^ x) (c .nonzero-mask .ensures .0) ∙ sym (mirrors-length (c .before .args .row .now)),
-      omega (arith, exact, pow-pos k),
-      omega (arith, exact, pow-mono (few c)),
-    )
+    let k = c .before .args .row .now in
+    let count : c .mirror-count .result ≡ length (mirrors k) = c .mirror-count .ensures ∙ ap (λ l. length (mirrors l)) (on-axes k (c .before .pre)) in
+    (count, omega (arith, count, mirrors-some k), omega (arith, count, under-length 2 k (c .before .pre)))
 
 pub mirror-count-spec : {M : Type 1} → statement M
-mirror-count-spec = tie.close (tie.spec nonzero-mask-requires cast-result shl-result returns)
+mirror-count-spec = tie.close (tie.spec mirror-count-requires returns)

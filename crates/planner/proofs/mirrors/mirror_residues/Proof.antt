@@ -11,7 +11,8 @@ use Rattle.rank1.proofs.ResidueLaws.{residue-lt}
 use Rattle.planner.specs.Sizes.{axes, largestSize, places}
 use Rattle.planner.specs.Inner.{place, RowReady}
 use Rattle.planner.proofs.products.ProductLaws.{component-small}
-use Rattle.planner.proofs.mirrors.MirrorResidues.{bits-zero, bits-other, minus-fits, minus-is, minus-small, Doubling, doubling-start, doubling-half, doubling-below, doubling-zero, doubling-other, doubling-end, turned-product}
+use Rattle.lists.proofs.MaskLaws.{bits-zero, bits-other}
+use Rattle.planner.proofs.mirrors.MirrorResidues.{minus-fits, minus-is, minus-small, Doubling, doubling-start, doubling-half, doubling-below, doubling-zero, doubling-other, doubling-end, turned-product}
 use Rattle.planner.proofs.mirrors.mirror_residues.Statement.{statement}
 use Rattle.planner.proofs.mirrors.mirror_residues.Tie as tie
 

@@ -9,7 +9,8 @@ use lib.ListN.{length, take}
 use Rattle.rank1.specs.Residue.{residueAt}
 use Rattle.rank1.specs.Index.{mirrors}
 use Rattle.rank1.specs.Sums.{mirrorsUnder}
-use Rattle.planner.proofs.mirrors.MirrorResidues.{take-one, under-row, under-mirrors}
+use Rattle.rank1.proofs.SumLaws.{under-row, under-mirrors}
+use Rattle.planner.proofs.mirrors.MirrorResidues.{take-one}
 use Rattle.planner.proofs.mirrors.residues_under.Statement.{statement}
 use Rattle.planner.proofs.mirrors.residues_under.Tie as tie
 

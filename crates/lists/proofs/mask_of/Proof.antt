@@ -1,4 +1,4 @@
--- `mirrors::nonzero_mask`: the bits set so far, and the components still to come that are not 0, make up the row's.
+-- `lists::mask_of`: the bits set so far, and the components still to come that are not 0, make up the row's.
 use mathlib.Core.Path.{_≡_, ap}
 use mathlib.Core.Logic.{⊎-elim}
 use Prim.Native.Nat.{_≤_, _<_, _+_, _-_, _^_}
@@ -8,9 +8,9 @@ use lib.Count.{ones}
 use lib.IntN.{pos}
 use lib.ListN.{length, getD, drop, drop-of-length-le}
 use Rattle.rank1.specs.Index.{nonzeros}
-use Rattle.planner.proofs.mirrors.MirrorResidues.{bits-zero, bits-other, nonzeros-zero, nonzeros-other, mask-ones, mask-lt, pow-step}
-use Rattle.planner.proofs.mirrors.nonzero_mask.Statement.{statement}
-use Rattle.planner.proofs.mirrors.nonzero_mask.Tie as tie
+use Rattle.lists.proofs.MaskLaws.{bits-zero, bits-other, nonzeros-zero, nonzeros-other, mask-ones, mask-lt, pow-step}
+use Rattle.lists.proofs.mask_of.Statement.{statement}
+use Rattle.lists.proofs.mask_of.Tie as tie
 
 abbrev Inv-loop : tie.InvT-loop
 Inv-loop row mask₀ j₀ j-end mask j = (j ≤ length row) × (mask < 2 ^ j) × (ones mask + nonzeros (drop j row) ≡ nonzeros row)
@@ -66,8 +66,8 @@ returns c =
     let end : l .j ≡ length k = omega arith in
     (omega (arith, ap nonzeros (drop-of-length-le k {i = l .j} (omega arith))), rw end at (l .inv .1))
 
-pub nonzero-mask-spec : {M : Type 1} → statement M
-nonzero-mask-spec =
+pub mask-of-spec : {M : Type 1} → statement M
+mask-of-spec =
     tie.close
     (tie.spec
     Inv-loop
