@@ -16,20 +16,20 @@ use Rattle.rank1.specs.Valid.{ValidList}
 use Rattle.rank1.proofs.TestLaws.{row-true, row-false, decides-row, decided-is}
 use Rattle.rank1.proofs.IndexLaws.{rows-front, rows-snoc}
 use Rattle.rank1.proofs.RefusalLaws.{firstOf-none}
-use Rattle.rank1.proofs.ValidLaws.{row-clear, list-length, valid-list}
+use Rattle.rank1.proofs.ValidLaws.{row-clear, length-clear, valid-list}
 
 -- ---- the rows
 module _ (d : ℕ) (xs row : List ℤ) (some : 1 ≤ d) (long : length row ≡ d) where
   both : length (xs ++ row) ≡ length xs + d
   both = length-append xs row ∙ ap (λ (k : ℕ). length xs + k) long
 
-  pub count-longer : rowCount d (xs ++ row) ≡ suc (rowCount d xs)
+  count-longer : rowCount d (xs ++ row) ≡ suc (rowCount d xs)
   count-longer = ap (λ (k : ℕ). k / d) both ∙ add-div-right (length xs) some ∙ add-one (rowCount d xs)
 
-  pub whole-longer : length (xs ++ row) % d ≡ length xs % d
+  whole-longer : length (xs ++ row) % d ≡ length xs % d
   whole-longer = ap (λ (k : ℕ). k % d) both ∙ add-mod-right (length xs) d
 
-  pub rows-longer : length xs % d ≡ 0 → indexList d (xs ++ row) ≡ indexList d xs ++ (row ∷ [])
+  rows-longer : length xs % d ≡ 0 → indexList d (xs ++ row) ≡ indexList d xs ++ (row ∷ [])
   rows-longer whole =
       ap (λ (k : ℕ). rowsOf d k (xs ++ row)) count-longer
       ∙ rows-snoc d (rowCount d xs) (xs ++ row)
@@ -40,6 +40,12 @@ module _ (d : ℕ) (xs row : List ℤ) (some : 1 ≤ d) (long : length row ≡ d
 
       last : take d (drop (rowCount d xs * d) (xs ++ row)) ≡ row
       last = ap (take d) (drop-at xs row (rowCount d xs * d) lines) ∙ take-all d row (omega (arith, long))
+
+-- where neither condition 3 applies, the row is d numbers and the longer list's rows are those of the list and the row
+pub lengths-longer : (d : ℕ) (xs row : List ℤ) → 1 ≤ d → badRow d row ≡ 0 → badLength d (xs ++ row) ≡ 0 → (length row ≡ d) × (indexList d (xs ++ row) ≡ indexList d xs ++ (row ∷ []))
+lengths-longer d xs row some row-right list-right =
+    let long = row-clear d row .0 row-right in
+    (long, rows-longer d xs row some long (sym (whole-longer d xs row some long) ∙ length-clear d (xs ++ row) .0 list-right .0))
 
 -- ---- some member, in the one list or in the other
 pub any-append : {A : Type 0} (f : A → Bool) (xs ys : List A) → any f (xs ++ ys) ≡ (any f xs || any f ys)
@@ -86,16 +92,15 @@ pub record Longer (plan d : ℕ) (xs row : List ℤ) : Type 0 where
 
 pub longer : (plan d : ℕ) (xs row : List ℤ) → firstOf (longerConditions plan d xs row) ≡ 0 → Longer plan d xs row
 longer plan d xs row none =
-    let listed = badLength d (xs ++ row) ∷ badComponent plan (xs ++ row) ∷ equalRows d (xs ++ row) ∷ [] in
-    let axes = firstOf-none (badAxes d) (badRow d row ∷ listed) .0 none in
-    let added = firstOf-none (badRow d row) listed .0 (axes .1) in
-    let long = row-clear d row .0 (added .0) in
-    let valid = valid-list plan d (xs ++ row) (firstOf-none (badAxes d) listed .1 (axes .0, added .1)) in
-    let some = valid .some-axes in
+    let later = badComponent plan (xs ++ row) ∷ equalRows d (xs ++ row) ∷ [] in
+    let axes = firstOf-none (badAxes d) (badRow d row ∷ badLength d (xs ++ row) ∷ later) .0 none in
+    let added = firstOf-none (badRow d row) (badLength d (xs ++ row) ∷ later) .0 (axes .1) in
+    let valid = valid-list plan d (xs ++ row) (firstOf-none (badAxes d) (badLength d (xs ++ row) ∷ later) .1 (axes .0, added .1)) in
+    let lengths = lengths-longer d xs row (valid .some-axes) (added .0) (firstOf-none (badLength d (xs ++ row)) later .0 (added .1) .0) in
     record {
       valid = valid;
-      long = long;
-      rows = rows-longer d xs row some long (sym (whole-longer d xs row some long) ∙ list-length plan d (xs ++ row) (firstOf-none (badAxes d) listed .1 (axes .0, added .1)) .0);
+      long = lengths .0;
+      rows = lengths .1;
       fits = div-mul-le-self (length xs) d;
-      few-rows = omega (arith, count-longer d xs row some long, valid .few-rows);
+      few-rows = omega (arith, count-longer d xs row (valid .some-axes) (lengths .0), valid .few-rows);
     }

@@ -12,8 +12,8 @@ use Rattle.rank1.specs.Tests.{any, sameRow}
 use Rattle.rank1.specs.Index.{rowsOf, rowCount, indexList}
 use Rattle.rank1.specs.Refusal.{outside, repeats, firstOf, badAxes, badRow, badLength, badComponent, equalRows, longerConditions}
 use Rattle.rank1.proofs.RefusalLaws.{firstOf-none}
-use Rattle.rank1.proofs.ValidLaws.{axes-clear, row-clear, length-clear}
-use Rattle.rank1.proofs.LongerLaws.{whole-longer, rows-longer, any-append, repeats-longer}
+use Rattle.rank1.proofs.ValidLaws.{axes-clear}
+use Rattle.rank1.proofs.LongerLaws.{lengths-longer, any-append, repeats-longer}
 use Rattle.refusal.proofs.InputLaws.{applies, applies-not, stops, passes, ends, list-stops, list-passes}
 use borrow.Author.Needs.{needs}
 use Rattle.refusal.proofs.longer_refusal.Statement.{statement}
@@ -37,18 +37,16 @@ module _ (plan d : ℕ) (xs row : List ℤ) where
 
   -- 5, by the rows of the list and the row
   module _ (some : 1 ≤ d) (clear : firstOf lengths ≡ 0) where
-    long : length row ≡ d
-    long = row-clear d row .0 (firstOf-none (badRow d row) (badLength d (xs ++ row) ∷ []) .0 clear .0)
-
-    rows : indexList d (xs ++ row) ≡ indexList d xs ++ (row ∷ [])
-    rows =
-        let whole = length-clear d (xs ++ row) .0 (firstOf-none (badLength d (xs ++ row)) [] .0 (firstOf-none (badRow d row) (badLength d (xs ++ row) ∷ []) .0 clear .1) .0) .0 in
-        rows-longer d xs row some long (sym (whole-longer d xs row some long) ∙ whole)
+    -- what the conditions 3 leave open
+    told-lengths : (length row ≡ d) × (indexList d (xs ++ row) ≡ indexList d xs ++ (row ∷ []))
+    told-lengths =
+        let none = firstOf-none (badRow d row) (badLength d (xs ++ row) ∷ []) .0 clear in
+        lengths-longer d xs row some (none .0) (firstOf-none (badLength d (xs ++ row)) [] .0 (none .1) .0)
 
     repeated : (a b : Bool) → a ≡ repeats (indexList d xs) → b ≡ any (sameRow row) (rowsOf (length row) (rowCount d xs) xs) → (a || b) ≡ repeats (indexList d (xs ++ row))
     repeated a b p q =
-        ap₂ (λ (s t : Bool). s || t) p (q ∙ ap (λ (k : ℕ). any (sameRow row) (rowsOf k (rowCount d xs) xs)) long)
-        ∙ sym (ap repeats rows ∙ repeats-longer (indexList d xs) row)
+        ap₂ (λ (s t : Bool). s || t) p (q ∙ ap (λ (k : ℕ). any (sameRow row) (rowsOf k (rowCount d xs) xs)) (told-lengths .0))
+        ∙ sym (ap repeats (told-lengths .1) ∙ repeats-longer (indexList d xs) row)
 
 axes-refusal-requires : tie.Need-axes-refusal-requires
 axes-refusal-requires c κs = search needs
@@ -112,7 +110,7 @@ stands-among-requires c κs =
     let s = c .before .before .before .before .before .before .before .before .args in
     let clear = sym (c .before .before .before .before .before .longer-length-refusal .ensures) ∙ c .before .before .before .before .if2 .left in
     let some = axes (c .before .before .before .before .before .before) .0 in
-    subst (λ (k : ℕ). 0 + rowCount (s .d) (s .rows .now) * k ≤ length (s .rows .now)) (sym (long (s .plan) (s .d) (s .rows .now) (s .row .now) some clear))
+    subst (λ (k : ℕ). 0 + rowCount (s .d) (s .rows .now) * k ≤ length (s .rows .now)) (sym (told-lengths (s .plan) (s .d) (s .rows .now) (s .row .now) some clear .0))
     (omega (arith, div-mul-le-self (length (s .rows .now)) (s .d)))
 
 -- past conditions 2 to 4
