@@ -8,6 +8,9 @@
  *   rows, rows_len  the list: m rows of d numbers, one after the other, so rows_len is m * d, m from 0 to 512. Each number is
  *                   from -255 to 255, not negative for plans 2, 3 and 4, and all rows differ. A list of no rows has rows_len 0;
  *                   rows may then be NULL
+ *   corners, corners_len
+ *                   the corners of a list: 1 to 32 rows of d numbers from 0 to 255, one after the other, so corners_len is d for
+ *                   each corner. Equal corners are allowed
  *   n               the modulus, 1 to 8192
  *   z, z_len        the generating vector: d numbers from 0 to n - 1, so z_len is d
  *   tally           the record of a list (planner_tally, below), passed by value
@@ -20,8 +23,9 @@
  *    1  plan above 4; for map, spread and gather also plan 0
  *    2  d not 1 to 6
  *    3  rows_len no multiple of d, or more than 512 rows; add_row: also a row not d long, or a record that is not the list's;
- *       least_modulus: a record with m over 512, size over 64 * m, or the zero row at m = 0
- *    4  a component of a row outside its range
+ *       least_modulus: a record with m over 512, size over 64 * m, or the zero row at m = 0; corner_list: only corners_len no
+ *       multiple of d
+ *    4  a component of a row or corner outside its range
  *    5  two equal rows
  *    6  n, or the ceiling, not 1 to 8192
  *    7  z not d long, or a component of it n or more
@@ -29,12 +33,14 @@
  *    9  search: nothing admissible
  *   10  map, spread, gather: the pair n, z is not admissible
  *   11  gather: a sum is no multiple of c, or a quotient does not fit 32 bits
+ *   13  corner_list: no corners, more than 32, or their list has more than 512 rows. It is tried after 4 and before 8
+ *   No call returns 12, which is a refusal of the program that reads tickets: the form of its text.
  *
  * What the caller owes
  *   Every pointer is aligned and points to as many elements as its length says; one whose length is 0 is not followed and may be
- *   NULL. The pointers without a length, yes, found, m, size and zero, are not NULL and point to one element each. What a call may
- *   write overlaps nothing else that it is passed, and nothing else touches the memory until it returns. A search takes less than
- *   1.5 MiB of stack, any other call less than 256 KiB. The calls keep no state: different threads may call at once.
+ *   NULL. The pointers without a length, yes, found, m, size, zero and count, are not NULL and point to one element each. What a
+ *   call may write overlaps nothing else that it is passed, and nothing else touches the memory until it returns. A search takes
+ *   less than 1.5 MiB of stack, any other call less than 256 KiB. The calls keep no state: different threads may call at once.
  */
 #ifndef PLANNER_H
 #define PLANNER_H
@@ -152,6 +158,25 @@ uint8_t planner_add_row(uint8_t plan, size_t d, const int16_t *rows, size_t rows
  * Writes, where it returns 0: *found, the modulus.
  */
 uint8_t planner_least_modulus(uint8_t plan, planner_tally tally, uint16_t *found);
+
+/*
+ * The list of some corners: every row from zero up to some corner (a row without negative components that is nowhere larger than
+ * that corner), each once, in dictionary order, the first component most significant. So the zero row is the first. Such a list
+ * is lower (the next call), and valid for every plan.
+ * Refusals: 2, 3 where corners_len is no multiple of d, 4 where a component is negative or above 255, 13 where there are no
+ * corners, more than 32, or the list has more than 512 rows, 8 where out_len is not 512 * d.
+ * Writes, where it returns 0: *count, the number of rows, and the front of out, *count * d numbers. The rest of out is kept.
+ * It is fast for any corners: at most 512 rows are made.
+ */
+uint8_t planner_corner_list(size_t d, const int16_t *corners, size_t corners_len, int16_t *out, size_t out_len, size_t *count);
+
+/*
+ * Whether a list is lower: with a row, every row without negative components that is nowhere larger is in too. A list with a
+ * negative component never is; the list of no rows is.
+ * Refusals: 2 3, 4 where a component is larger than 255 in size (as for plans 0 and 1 it may be negative), 5.
+ * Writes, where it returns 0: *yes, 1 where the list is lower and else 0.
+ */
+uint8_t planner_is_lower(size_t d, const int16_t *rows, size_t rows_len, uint8_t *yes);
 
 #ifdef __cplusplus
 }

@@ -1,6 +1,6 @@
 /*
- * Every call of the header, on document 01's small examples, on the list of no rows with NULL where a length is 0, and on records
- * passed by value. It prints the calls that answer otherwise; none where all is well.
+ * Every call of the header, on document 01's small examples, on the list of no rows with NULL where a length is 0, on records
+ * passed by value, and on lists given by corners. It prints the calls that answer otherwise; none where all is well.
  */
 #include <stdio.h>
 #include <string.h>
@@ -123,6 +123,117 @@ static void expect_tally_refused(void)
     expect("planner_least_modulus", planner_least_modulus(2, hollow, &n) == 0 && n == 0);
 }
 
+enum { MOST_ROWS = 512, MOST_CORNERS = 32, PATTERN = -7 };
+
+static void fill(int16_t *places, size_t count, int16_t with)
+{
+    for (size_t i = 0; i < count; i++) {
+        places[i] = with;
+    }
+}
+
+static int all_are(const int16_t *places, size_t count, int16_t value)
+{
+    for (size_t i = 0; i < count; i++) {
+        if (places[i] != value) {
+            return 0;
+        }
+    }
+    return 1;
+}
+
+/* the list of (2, 0) and (0, 1), given in any order and with equal ones, lies in front, and what is behind it is kept */
+static void expect_corner_list(void)
+{
+    const int16_t corners[2][6] = {{2, 0, 0, 1, 2, 0}, {0, 1, 1, 0, 2, 0}};
+    const int16_t list[8] = {0, 0, 0, 1, 1, 0, 2, 0};
+    int16_t out[2 * MOST_ROWS];
+    uint8_t yes = 7;
+
+    for (size_t i = 0; i < 2; i++) {
+        size_t count = 9;
+        fill(out, 2 * MOST_ROWS, PATTERN);
+        expect("planner_corner_list", planner_corner_list(2, corners[i], 6, out, 2 * MOST_ROWS, &count) == 0 && count == 4);
+        expect("planner_corner_list", memcmp(out, list, sizeof list) == 0 && all_are(out + 8, 2 * MOST_ROWS - 8, PATTERN));
+    }
+    expect("planner_is_lower", planner_is_lower(2, out, 8, &yes) == 0 && yes == 1);
+
+    /* (255, 1) has 512 rows, which fill all places; the last is the corner itself */
+    const int16_t full[2] = {255, 1};
+    size_t count = 9;
+    expect("planner_corner_list", planner_corner_list(2, full, 2, out, 2 * MOST_ROWS, &count) == 0 && count == MOST_ROWS);
+    for (size_t i = 0; i < MOST_ROWS; i++) {
+        expect("planner_corner_list", out[2 * i] == (int16_t)(i / 2) && out[2 * i + 1] == (int16_t)(i % 2));
+    }
+    expect("planner_is_lower", planner_is_lower(2, out, 2 * MOST_ROWS, &yes) == 0 && yes == 1);
+    for (uint8_t plan = 0; plan <= 4; plan++) {
+        planner_tally t = {9, 9, 9};
+        expect("planner_tally_list", planner_tally_list(plan, 2, out, 2 * MOST_ROWS, &t.m, &t.size, &t.zero) == 0);
+        expect("planner_tally_list", t.m == MOST_ROWS && t.zero == 1);
+    }
+}
+
+/* one thing after the other is made right, so that each refusal comes before all that follow it; what was lent is kept */
+static void expect_corners_refused(void)
+{
+    const size_t many = 2 * (MOST_CORNERS + 1);
+    const int16_t above[1] = {256};
+    const int16_t long_list[4] = {255, 1, 0, 2};
+    int16_t highest[6 * MOST_CORNERS];
+    int16_t corners[2 * (MOST_CORNERS + 1) + 1];
+    int16_t out[6 * MOST_ROWS];
+    size_t count = 9;
+
+    fill(highest, 6 * MOST_CORNERS, 255);
+    fill(corners, many + 1, 1);
+    fill(out, 6 * MOST_ROWS, PATTERN);
+    corners[0] = -1;
+    expect("planner_corner_list", planner_corner_list(0, corners, many + 1, out, 1, &count) == 2);
+    expect("planner_corner_list", planner_corner_list(7, corners, many + 1, out, 1, &count) == 2);
+    expect("planner_corner_list", planner_corner_list(2, corners, many + 1, out, 1, &count) == 3);
+    expect("planner_corner_list", planner_corner_list(2, corners, many, out, 1, &count) == 4);
+    corners[0] = 1;
+    expect("planner_corner_list", planner_corner_list(2, corners, many, out, 1, &count) == 13);
+    expect("planner_corner_list", planner_corner_list(2, corners, many - 2, out, 1, &count) == 8);
+
+    expect("planner_corner_list", planner_corner_list(1, above, 1, out, MOST_ROWS, &count) == 4);
+    expect("planner_corner_list", planner_corner_list(2, NULL, 0, NULL, 0, &count) == 13);
+    expect("planner_corner_list", planner_corner_list(2, long_list, 4, out, 2 * MOST_ROWS, &count) == 13);
+    expect("planner_corner_list", planner_corner_list(6, highest, 6 * MOST_CORNERS, out, 6 * MOST_ROWS, &count) == 13);
+    expect("planner_corner_list", planner_corner_list(2, corners, 2, NULL, 0, &count) == 8);
+    expect("planner_corner_list", planner_corner_list(2, corners, 2, out, 2 * MOST_ROWS + 1, &count) == 8);
+    expect("a refused call", count == 9 && all_are(out, 6 * MOST_ROWS, PATTERN));
+
+    /* 32 corners, all equal */
+    expect("planner_corner_list", planner_corner_list(2, corners, many - 2, out, 2 * MOST_ROWS, &count) == 0 && count == 4);
+}
+
+/* lists that are lower, that are not, and that are refused */
+static void expect_lower(void)
+{
+    const int16_t lower[8] = {2, 0, 0, 1, 0, 0, 1, 0};
+    const int16_t hole[6] = {0, 0, 2, 0, 0, 1};
+    const int16_t negative[4] = {0, 0, -1, 0};
+    const int16_t outside[3] = {256, -256, 0};
+    static const int16_t too_many[MOST_ROWS + 1] = {0};
+    uint8_t yes = 7;
+
+    expect("planner_is_lower", planner_is_lower(2, lower, 8, &yes) == 0 && yes == 1);
+    expect("planner_is_lower", planner_is_lower(2, hole, 6, &yes) == 0 && yes == 0);
+    expect("planner_is_lower", planner_is_lower(2, NULL, 0, &yes) == 0 && yes == 1);
+    expect("planner_is_lower", planner_is_lower(2, negative, 4, &yes) == 0 && yes == 0);
+
+    yes = 7;
+    expect("planner_is_lower", planner_is_lower(0, outside, 3, &yes) == 2);
+    expect("planner_is_lower", planner_is_lower(7, outside, 3, &yes) == 2);
+    expect("planner_is_lower", planner_is_lower(2, outside, 3, &yes) == 3);
+    expect("planner_is_lower", planner_is_lower(1, too_many, MOST_ROWS + 1, &yes) == 3);
+    expect("planner_is_lower", planner_is_lower(2, outside, 2, &yes) == 4);
+    expect("planner_is_lower", planner_is_lower(1, outside + 1, 2, &yes) == 4);
+    expect("planner_is_lower", planner_is_lower(1, too_many, MOST_ROWS, &yes) == 5);
+    expect("a refused call", yes == 7);
+}
+
 int main(void)
 {
     const int16_t rows[3] = {0, 1, 2};
@@ -161,5 +272,8 @@ int main(void)
         expect_tally(plan);
     }
     expect_tally_refused();
+    expect_corner_list();
+    expect_corners_refused();
+    expect_lower();
     return wrong;
 }

@@ -1,7 +1,8 @@
 /*
  * Document 01's printed example through the header: cosine plan C, rows 0, 1, 2, ceiling 10. It prints the plan and the map as the
- * program `plan` does, then a request that is refused: plan 0, row 6, ceiling 3. Last it types the rows one after the other, and
- * prints after each the record and the least modulus worth trying under cosine plan A; a row that is in already is refused.
+ * program `plan` does, then a request that is refused: plan 0, row 6, ceiling 3. Next it types the rows one after the other, and
+ * prints after each the record and the least modulus worth trying under cosine plan A; a row that is in already is refused. Then
+ * come the rows of a list given by two corners, and its smallest plan under cosine plan A.
  */
 #include <inttypes.h>
 #include <stdio.h>
@@ -34,6 +35,30 @@ static int type_rows(const int16_t *rows)
     refused = planner_add_row(2, AXES, rows, ROWS * AXES, tally, rows, AXES, &tally.m, &tally.size, &tally.zero);
     printf("refused %" PRIu8 "\n", refused);
     return tally.m == before.m && tally.size == before.size && tally.zero == before.zero ? 0 : 1;
+}
+
+/* The list of the corners (2, 0) and (0, 1): its rows, and its smallest plan under plan A with a modulus up to 100. */
+static int plan_corners(void)
+{
+    const int16_t corners[2 * 2] = {2, 0, 0, 1};
+    int16_t rows[512 * 2];
+    size_t count;
+    uint16_t n;
+    uint16_t z[2];
+
+    uint8_t refused = planner_corner_list(2, corners, 2 * 2, rows, 512 * 2, &count);
+    if (refused == 0) {
+        refused = planner_search_smallest(2, 2, rows, count * 2, 100, z, 2, &n);
+    }
+    if (refused != 0) {
+        printf("refused %" PRIu8 "\n", refused);
+        return 1;
+    }
+    for (size_t i = 0; i < count; i++) {
+        printf("(%" PRId16 ", %" PRId16 ")\n", rows[2 * i], rows[2 * i + 1]);
+    }
+    printf("%" PRIu16 " %" PRIu16 " %" PRIu16 "\n", n, z[0], z[1]);
+    return 0;
 }
 
 int main(void)
@@ -69,5 +94,8 @@ int main(void)
     if (n != n_before || z[0] != z_before) {
         return 1;
     }
-    return type_rows(rows);
+    if (type_rows(rows) != 0) {
+        return 1;
+    }
+    return plan_corners();
 }

@@ -9,6 +9,9 @@
 //! While rows are still being typed, a [`Tally`] is the record of those that are in: [`add_row`] counts one more, and
 //! [`least_modulus`] says from the record alone which moduli are hopeless.
 //!
+//! Most lists are lower: with a row, every row without negative components that is nowhere larger is in too. [`corner_list`] makes
+//! such a list from its corners, and [`is_lower`] says whether a list is one.
+//!
 //! The functions are those of a library that is proved to meet document 01 of the planner, and the requests of document 02 that have
 //! landed; this crate links it and adds nothing to the answers. No argument makes a call panic: wrong ones are answered with a
 //! [`Refusal`], and then nothing lent is written.
@@ -41,6 +44,8 @@ pub use refusal::Refusal;
 pub const MOST_AXES: usize = 6;
 /// The largest number of rows.
 pub const MOST_ROWS: usize = 512;
+/// The largest number of corners.
+pub const MOST_CORNERS: usize = 32;
 /// The largest modulus, and the largest ceiling.
 pub const MOST_MODULUS: u16 = 8192;
 
@@ -406,6 +411,80 @@ pub fn least_modulus(rule: Rule, tally: Tally) -> Result<u16, Refusal> {
     // SAFETY: `found` is a local of our own.
     let number = unsafe { sys::planner_least_modulus(rule as u8, tally.into(), &mut found) };
     Refusal::told(number).map(|()| found)
+}
+
+/// The list of some corners: every row from zero up to some corner (a row without negative components that is nowhere larger than
+/// that corner), each once, in dictionary order, the first component most significant. The corners are 1 to [`MOST_CORNERS`] rows of
+/// d numbers from 0 to 255, one after the other; equal ones are allowed. Such a list is lower ([`is_lower`]) and valid under every
+/// rule. Refusals, in this order: 2, 3 where the length of the corners is no multiple of d, 4 also for a negative component, 13. It
+/// is fast for any corners: at most 512 rows are made.
+///
+/// ```
+/// use planner::{corner_list, is_lower, search_smallest, Plan, Refusal, Rule};
+///
+/// // the corners (2, 0) and (0, 1): the first axis alone up to 2, the second alone up to 1
+/// let rows = corner_list(2, &[2, 0, 0, 1])?;
+/// assert_eq!(rows, [0, 0, 0, 1, 1, 0, 2, 0]);
+/// assert_eq!(is_lower(2, &rows), Ok(true));
+/// assert_eq!(search_smallest(Rule::CosineA, 2, &rows, 100), Ok(Plan { n: 7, z: vec![1, 3] }));
+///
+/// // total degree at most 2 on three axes: the corners are the six rows of degree 2
+/// let corners = [2, 0, 0, 0, 2, 0, 0, 0, 2, 1, 1, 0, 1, 0, 1, 0, 1, 1];
+/// let rows = corner_list(3, &corners)?;
+/// assert_eq!(rows.len() / 3, 10);
+/// assert!(rows.chunks(3).all(|row| row.iter().sum::<i16>() <= 2));
+///
+/// // no corners, and a list of 256 * 256 rows
+/// assert_eq!(corner_list(2, &[]), Err(Refusal::Corners));
+/// assert_eq!(corner_list(2, &[255, 255]), Err(Refusal::Corners));
+/// assert_eq!(corner_list(2, &[-1, 3]), Err(Refusal::Component));
+/// # Ok::<(), Refusal>(())
+/// ```
+pub fn corner_list(d: usize, corners: &[i16]) -> Result<Vec<i16>, Refusal> {
+    let mut out = vec![0; MOST_ROWS * d.min(MOST_AXES)];
+    let count = corner_list_into(d, corners, &mut out)?;
+    out.truncate(count * d);
+    Ok(out)
+}
+
+/// The list of some corners, to the front of 512 * d lent places; the rest of them is kept. It answers with the number of rows.
+/// Refusals, in this order: 2, 3, 4, 13 and 8.
+///
+/// ```
+/// use planner::{corner_list_into, Refusal, MOST_ROWS};
+/// let mut out = [-1; 2 * MOST_ROWS];
+/// assert_eq!(corner_list_into(2, &[2, 0, 0, 1], &mut out), Ok(4));
+/// assert_eq!(out[..9], [0, 0, 0, 1, 1, 0, 2, 0, -1]);
+/// // four rows would fit in eight places, but 1024 are asked for
+/// assert_eq!(corner_list_into(2, &[2, 0, 0, 1], &mut out[..8]), Err(Refusal::Places));
+/// ```
+pub fn corner_list_into(d: usize, corners: &[i16], out: &mut [i16]) -> Result<usize, Refusal> {
+    let mut count = 0;
+    // SAFETY: the pointers and lengths are those of slices, `out` is lent to us alone, and `count` is a local of our own.
+    let number = unsafe {
+        sys::planner_corner_list(d, corners.as_ptr(), corners.len(), out.as_mut_ptr(), out.len(), &mut count)
+    };
+    Refusal::told(number).map(|()| count)
+}
+
+/// Whether a list is lower: with a row, every row without negative components that is nowhere larger is in too. One with a negative
+/// component never is; the list of no rows is. The order of the rows does not matter. Refusals: 2 to 5, 4 as for
+/// [`Rule::Fourier`]: components may be negative.
+///
+/// ```
+/// use planner::{is_lower, Refusal};
+/// assert_eq!(is_lower(2, &[0, 0, 1, 0, 2, 0, 0, 1]), Ok(true));
+/// // (1, 0) is missing below (2, 0)
+/// assert_eq!(is_lower(2, &[0, 0, 2, 0, 0, 1]), Ok(false));
+/// assert_eq!(is_lower(2, &[0, 0, -1, 0]), Ok(false));
+/// assert_eq!(is_lower(2, &[]), Ok(true));
+/// assert_eq!(is_lower(2, &[0, 0, 0, 0]), Err(Refusal::EqualRows));
+/// ```
+pub fn is_lower(d: usize, rows: &[i16]) -> Result<bool, Refusal> {
+    let mut yes = 0;
+    // SAFETY: the pointer and the length are those of a slice, and `yes` is a local of our own.
+    let number = unsafe { sys::planner_is_lower(d, rows.as_ptr(), rows.len(), &mut yes) };
+    Refusal::told(number).map(|()| yes == 1)
 }
 
 /// How many rows an output has room for: those of the list, where it is one.

@@ -1,9 +1,10 @@
 //! The library's functions as they are. A slice is passed as its pointer and then its length. Each returns the number of the
-//! refusal, 0 for none; then what it was lent is written, and otherwise left as it was.
+//! refusal, 0 for none; then what it was lent is written, and otherwise left as it was. `planner_corner_list` writes the front of
+//! its `out` alone.
 //!
 //! What a caller owes: every pointer is aligned and points to as many elements as its length says, where one whose length is 0 may
-//! be null; `yes`, `found`, `m`, `size` and `zero` are not null and point to one element each; and what may be written overlaps
-//! nothing else that is passed. `include/planner.h` says what each call does.
+//! be null; `yes`, `found`, `m`, `size`, `zero` and `count` are not null and point to one element each; and what may be written
+//! overlaps nothing else that is passed. `include/planner.h` says what each call does.
 
 /// The record of a list, as the library takes it: by value. The flag `zero` is no where it is 0, and yes for any other number.
 #[derive(Clone, Copy, Debug)]
@@ -122,4 +123,15 @@ extern "C" {
     ) -> u8;
 
     pub fn planner_least_modulus(plan: u8, tally: PlannerTally, found: *mut u16) -> u8;
+
+    pub fn planner_corner_list(
+        d: usize,
+        corners: *const i16,
+        corners_len: usize,
+        out: *mut i16,
+        out_len: usize,
+        count: *mut usize,
+    ) -> u8;
+
+    pub fn planner_is_lower(d: usize, rows: *const i16, rows_len: usize, yes: *mut u8) -> u8;
 }

@@ -5,13 +5,13 @@
 mod independent;
 mod random;
 
-use std::collections::BTreeMap;
+use std::collections::{BTreeMap, BTreeSet};
 use std::fmt::Debug;
 use std::ptr::{null, null_mut};
 use std::slice::from_ref;
 
 use independent::Record;
-use planner::{sys, Entry, Plan, Refusal, Rule, Tally, MOST_MODULUS};
+use planner::{sys, Entry, Plan, Refusal, Rule, Tally, MOST_CORNERS, MOST_MODULUS, MOST_ROWS};
 use random::Random;
 
 /// The arguments that most calls share.
@@ -68,7 +68,18 @@ impl<T: Copy + PartialEq + Debug> Lent<T> {
         }
     }
 
-    /// The same of a single place.
+    /// The front of the places holds `written` and those behind it the pattern, as all do where the call was refused.
+    fn holds_front(&self, written: Option<&[T]>, told: &dyn Debug) {
+        let places = self.all.len() - 2 * GUARD;
+        let whole = written.map(|front| {
+            let mut whole = front.to_vec();
+            whole.resize(places, self.pattern);
+            whole
+        });
+        self.holds(whole.as_deref(), told);
+    }
+
+    /// What `holds` says, of a single place.
     fn holds_one(&self, written: Option<T>, told: &dyn Debug) {
         self.holds(written.as_ref().map(from_ref), told);
     }
@@ -333,6 +344,56 @@ fn compare_bound(plan: u8, tally: Record) -> Result<u16, u8> {
         found.holds_one(expected.ok(), &(plan, lent));
     }
     assert_eq!(safely(plan, |rule| planner::least_modulus(rule, record(tally))), expected, "{plan} {tally:?}");
+    expected
+}
+
+/// What the list of some corners takes.
+#[derive(Clone, Debug)]
+struct Corners {
+    d: usize,
+    corners: Vec<i16>,
+    places: usize,
+}
+
+impl Corners {
+    /// With places of the right length.
+    fn new(d: usize, corners: &[i16]) -> Corners {
+        Corners { d, corners: corners.to_vec(), places: MOST_ROWS * d }
+    }
+}
+
+fn compare_corners(c: &Corners) -> Result<Vec<i16>, u8> {
+    let corners = &c.corners;
+    let expected = independent::corner_list(c.d, corners, c.places);
+    let rows = expected.as_ref().map(|list| list.len() / c.d).map_err(|refused| *refused);
+
+    let (mut out, mut count) = (Lent::new(c.places, 0x5a5a), Lent::new(1, usize::MAX / 3));
+    let answer = unsafe {
+        let (out, count) = (out.lend(), count.lend().as_mut_ptr());
+        sys::planner_corner_list(c.d, corners.as_ptr(), corners.len(), out.as_mut_ptr(), out.len(), count)
+    };
+    assert_eq!(answer, number(&expected), "{c:?}");
+    out.holds_front(expected.as_deref().ok(), c);
+    count.holds_one(rows.ok(), c);
+
+    let mut out = Lent::new(c.places, -1);
+    let answer = planner::corner_list_into(c.d, corners, out.lend());
+    assert_eq!(answer.map_err(Refusal::number), rows, "{c:?}");
+    out.holds_front(expected.as_deref().ok(), c);
+    if c.places == MOST_ROWS * c.d.min(7) {
+        assert_eq!(planner::corner_list(c.d, corners).map_err(Refusal::number), expected, "{c:?}");
+    }
+    expected
+}
+
+fn compare_lower(d: usize, rows: &[i16]) -> Result<bool, u8> {
+    let told = (d, rows);
+    let expected = independent::is_lower(d, rows);
+    let mut yes = Lent::new(1, 0xa5);
+    let answer = unsafe { sys::planner_is_lower(d, rows.as_ptr(), rows.len(), yes.lend().as_mut_ptr()) };
+    assert_eq!(answer, number(&expected), "{told:?}");
+    yes.holds_one(expected.ok().map(u8::from), &told);
+    assert_eq!(planner::is_lower(d, rows).map_err(Refusal::number), expected, "{told:?}");
     expected
 }
 
@@ -1020,6 +1081,483 @@ fn hopeless_long_lists() {
     }
 }
 
+/// Corners over d axes: few that are high or many that are low, on all axes or on some, and some of them equal.
+fn any_corners(d: usize, random: &mut Random) -> Corners {
+    let count = random.pick(&[1, 1, 2, 3, 4, 6, 12, 31, 32]);
+    let span = random.pick(&[1, 1, 2, 2, 3, 5, 9, 30, 255]);
+    let sparse = random.below(2) == 0;
+    let mut corners = Vec::new();
+    for i in 0..count {
+        if i > 0 && random.below(8) == 0 {
+            corners.extend_from_within(..d);
+        } else {
+            corners.extend((0..d).map(|_| if sparse && random.below(3) > 0 { 0 } else { component(2, span, random) }));
+        }
+    }
+    Corners::new(d, &corners)
+}
+
+/// One thing of the corners is made wrong, or at least other.
+fn damage_corners(c: &mut Corners, random: &mut Random) {
+    let axes = c.d.clamp(1, 6);
+    match random.below(10) {
+        0 => c.d = random.pick(&[0, 1, 2, 3, 4, 5, 6, 7, 8, 64, 1 << 32, usize::MAX]),
+        1 => {
+            c.corners.pop();
+        }
+        2 => c.corners.push(7),
+        3 | 4 if !c.corners.is_empty() => {
+            let at = random.below(c.corners.len());
+            c.corners[at] = random.pick(&[-1, -255, 255, 256, -256, 0, i16::MAX, i16::MIN]);
+        }
+        5 => c.corners.clear(),
+        // corners again, until there are too many
+        6 if c.corners.len() >= axes => {
+            let wanted = (33 + random.below(2) * random.below(600)) * axes;
+            while c.corners.len() < wanted {
+                c.corners.extend_from_within(..axes);
+            }
+        }
+        7 => c.corners.extend(vec![255; axes]),
+        _ => {
+            let right = MOST_ROWS * axes;
+            c.places =
+                random.pick(&[0, axes, c.corners.len(), right / 2, right - 1, right + 1, right + axes, 2 * right]);
+        }
+    }
+}
+
+/// What the list of any corners is: lower, with the zero row first, and valid for all plans, so that no call refuses it but for a
+/// pair that is not admissible.
+fn lower_and_valid(d: usize, list: &[i16]) {
+    assert_eq!(planner::is_lower(d, list), Ok(true), "{d} {list:?}");
+    assert_eq!(list[..d], vec![0; d], "{d} {list:?}");
+    let m = (list.len() / d) as u32;
+    for rule in Rule::ALL {
+        let told = (rule, d, list);
+        let (n, z) = (1, vec![0; d]);
+        assert!(planner::check(rule, d, list, n, &z).is_ok(), "{told:?}");
+        let tally = planner::tally_list(rule, d, list).unwrap();
+        assert_eq!((tally.m, tally.zero), (m, true), "{told:?}");
+        let refused = planner::search_vector(rule, d, list, n).err();
+        assert!(matches!(refused, None | Some(Refusal::NothingAdmissible)), "{told:?} {refused:?}");
+        if rule != Rule::ExactIntegration {
+            let refused = planner::residue_map(rule, d, list, n, &z).err();
+            assert!(matches!(refused, None | Some(Refusal::Inadmissible)), "{told:?} {refused:?}");
+        }
+    }
+}
+
+/// Lists given by corners (document 02, c): the list of any corners, and the same corners with some things damaged.
+#[test]
+fn corner_lists() {
+    let mut random = Random::new(13);
+    let (mut seen, mut damaged) = (Seen::default(), Seen::default());
+    let mut long = 0;
+    for turn in 0..3000 {
+        let c = any_corners(1 + turn % 6, &mut random);
+        let answer = compare_corners(&c);
+        seen.add(&answer);
+        if let Ok(list) = answer {
+            lower_and_valid(c.d, &list);
+            long += usize::from(list.len() > 200 * c.d);
+        }
+        let mut other = c.clone();
+        for _ in 0..=random.below(3) {
+            damage_corners(&mut other, &mut random);
+        }
+        damaged.add(&compare_corners(&other));
+    }
+    seen.all_of(&[0, 13], 500);
+    damaged.all_of(&[0, 2, 3, 4, 8, 13], 100);
+    assert!(long > 100, "{long}");
+}
+
+/// All rows over d axes whose components have the sum `degree`.
+fn rows_of_degree(d: usize, degree: i16) -> Vec<Vec<i16>> {
+    if d == 1 {
+        return vec![vec![degree]];
+    }
+    let behind = |x: i16| rows_of_degree(d - 1, degree - x);
+    (0..=degree).flat_map(|x| behind(x).into_iter().map(move |rest| [&[x], &rest[..]].concat())).collect()
+}
+
+/// The number of rows of a list given by corners.
+fn rows_given(d: usize, corners: &[i16]) -> Result<usize, u8> {
+    compare_corners(&Corners::new(d, corners)).map(|list| {
+        assert!(list.chunks(d).zip(list.chunks(d).skip(1)).all(|(k, h)| k < h), "no dictionary order: {corners:?}");
+        lower_and_valid(d, &list);
+        list.len() / d
+    })
+}
+
+/// The corners of a total degree are the rows that have it, and its list has all rows of this degree or less: they can be counted.
+#[test]
+fn total_degrees() {
+    for (d, degree, corners, rows) in
+        [(4, 3, 20, 35), (2, 20, 21, 231), (2, 30, 31, 496), (3, 6, 28, 84), (5, 2, 15, 21), (6, 2, 21, 28)]
+    {
+        let full = rows_of_degree(d, degree);
+        assert_eq!(full.len(), corners);
+        assert_eq!(rows_given(d, &full.concat()), Ok(rows), "{d} {degree}");
+        let list = planner::corner_list(d, &full.concat()).unwrap();
+        assert!(list.chunks(d).all(|row| row.iter().sum::<i16>() <= degree), "{d} {degree}");
+    }
+    // 32 corners, but 528 rows
+    assert_eq!(rows_given(2, &rows_of_degree(2, 31).concat()), Err(13));
+}
+
+/// A corner for each axis: this axis alone, up to its end.
+fn axes_alone(ends: &[i16]) -> Vec<i16> {
+    let corner = |j: usize| (0..ends.len()).map(move |i| if i == j { ends[j] } else { 0 });
+    (0..ends.len()).flat_map(corner).collect()
+}
+
+/// One corner is a box, and a corner on an axis adds what reaches out of it: lists of 512 rows, and of 513.
+#[test]
+fn boxes_and_axes() {
+    assert_eq!(rows_given(3, &[3, 4, 9]), Ok(200));
+    assert_eq!(rows_given(1, &[255]), Ok(256));
+    assert_eq!(rows_given(2, &[255, 1]), Ok(512));
+    assert_eq!(rows_given(2, &[255, 1, 0, 2]), Err(13));
+    assert_eq!(rows_given(2, &[0, 2, 255, 1]), Err(13));
+    assert_eq!(rows_given(2, &[255, 2]), Err(13));
+    assert_eq!(rows_given(3, &[7, 7, 7]), Ok(512));
+    assert_eq!(rows_given(3, &[7, 7, 7, 8, 0, 0]), Err(13));
+    assert_eq!(rows_given(6, &[1, 1, 1, 1, 1, 15]), Ok(512));
+    assert_eq!(rows_given(6, &[1, 1, 1, 1, 1, 15, 0, 0, 0, 0, 0, 16]), Err(13));
+
+    assert_eq!(rows_given(6, &axes_alone(&[86, 85, 85, 85, 85, 85])), Ok(512));
+    assert_eq!(rows_given(6, &axes_alone(&[85, 85, 85, 85, 85, 86])), Ok(512));
+    assert_eq!(rows_given(6, &axes_alone(&[86, 85, 85, 85, 85, 86])), Err(13));
+    assert_eq!(rows_given(2, &axes_alone(&[255, 255])), Ok(511));
+    assert_eq!(rows_given(2, &[255, 0, 0, 255, 1, 1]), Ok(512));
+    assert_eq!(rows_given(2, &[255, 0, 0, 255, 1, 2]), Err(13));
+}
+
+/// As many corners as there may be, and one more, on all numbers of axes; equal ones count. No corners; and the highest there are,
+/// whose list has more rows than could be made one by one.
+#[test]
+fn numbers_of_corners() {
+    for d in 1..=6 {
+        for corner in [vec![0; d], vec![1; d]] {
+            let rows = Ok(if corner[0] == 0 { 1 } else { 1 << d });
+            assert_eq!(rows_given(d, &corner), rows);
+            assert_eq!(rows_given(d, &corner.repeat(MOST_CORNERS)), rows);
+            assert_eq!(rows_given(d, &corner.repeat(MOST_CORNERS + 1)), Err(13));
+            assert_eq!(rows_given(d, &corner.repeat(10_000)), Err(13));
+        }
+        assert_eq!(rows_given(d, &[]), Err(13));
+        let highest = vec![255; d];
+        let rows = if d == 1 { Ok(256) } else { Err(13) };
+        assert_eq!(rows_given(d, &highest), rows);
+        assert_eq!(rows_given(d, &highest.repeat(MOST_CORNERS)), rows);
+        assert_eq!(rows_given(d, &highest.repeat(MOST_CORNERS + 1)), Err(13));
+        // different corners of one axis each: the list is that of the highest
+        let line: Vec<i16> = (0..32).flat_map(|x| [&vec![0; d - 1][..], &[x]].concat()).collect();
+        assert_eq!(rows_given(d, &line), Ok(32));
+    }
+}
+
+/// A row that is not in the lower list, though every other row up to it is.
+fn row_above(d: usize, list: &[i16], random: &mut Random) -> Vec<i16> {
+    let rows: BTreeSet<&[i16]> = list.chunks(d).collect();
+    loop {
+        let mut row = list[random.below(list.len() / d) * d..][..d].to_vec();
+        row[random.below(d)] += 1;
+        let reached = (0..d).filter(|j| row[*j] > 0).all(|j| {
+            let mut below = row.clone();
+            below[j] -= 1;
+            rows.contains(&below[..])
+        });
+        if reached && !rows.contains(&row[..]) && row.iter().all(|x| *x <= 255) {
+            return row;
+        }
+    }
+}
+
+/// Boxes of nearly 512 rows, and then corners that add one row each: a list of 512 rows is given, one of 513 is not.
+#[test]
+fn growing_by_corners() {
+    let mut random = Random::new(14);
+    let boxes: [&[i16]; 16] = [
+        &[21, 21],
+        &[254, 1],
+        &[1, 254],
+        &[30, 15],
+        &[99, 4],
+        &[7, 7, 7],
+        &[4, 9, 9],
+        &[6, 7, 8],
+        &[0, 30, 15],
+        &[4, 4, 4, 3],
+        &[1, 1, 10, 10],
+        &[2, 2, 2, 2, 5],
+        &[1, 1, 4, 4, 4],
+        &[2, 2, 2, 2, 2, 1],
+        &[1, 1, 1, 1, 0, 30],
+        &[0, 4, 4, 0, 4, 3],
+    ];
+    for corner in boxes {
+        let d = corner.len();
+        let mut c = Corners::new(d, corner);
+        let mut list = compare_corners(&c).unwrap();
+        assert!(list.len() >= 483 * d, "{corner:?}");
+        while list.len() < 512 * d {
+            c.corners.extend(row_above(d, &list, &mut random));
+            let longer = compare_corners(&c).unwrap();
+            assert_eq!(longer.len(), list.len() + d, "{c:?}");
+            list = longer;
+        }
+        lower_and_valid(d, &list);
+        c.corners.extend(row_above(d, &list, &mut random));
+        assert!(c.corners.len() <= MOST_CORNERS * d, "{c:?}");
+        assert_eq!(compare_corners(&c), Err(13), "{c:?}");
+    }
+}
+
+/// The sets of numbers that can be made of these, each in the order in which they stand here.
+fn all_sets(numbers: &[u8]) -> Vec<Vec<u8>> {
+    numbers.iter().fold(vec![vec![]], |sets, number| {
+        let with: Vec<Vec<u8>> = sets.iter().map(|set| [&set[..], &[*number]].concat()).collect();
+        [sets, with].concat()
+    })
+}
+
+/// Corners for which all of these refusals apply: 13 by their number or by the length of their list.
+fn wrong_corners(d: usize, wrong: &[u8], too_many: bool, random: &mut Random) -> Corners {
+    let mut c = Corners::new(d, &vec![1; d]);
+    if wrong.contains(&13) {
+        c.corners = if too_many { vec![1; 33 * d] } else { vec![255; 2 * d] };
+    }
+    if wrong.contains(&4) {
+        let at = random.below(c.corners.len());
+        c.corners[at] = random.pick(&[-1, -255, 256, i16::MIN, i16::MAX]);
+    }
+    if wrong.contains(&3) {
+        c.corners.push(1);
+    }
+    if wrong.contains(&8) {
+        c.places = random.pick(&[0, d, 512 * d - 1, 512 * d + 1, 1024 * d]);
+    }
+    if wrong.contains(&2) {
+        c.d = random.pick(&[0, 7, usize::MAX]);
+    }
+    c
+}
+
+/// A number of axes and a list for which all of these refusals apply: 3 by its length or by its number of rows.
+fn wrong_list(d: usize, wrong: &[u8], too_many: bool, random: &mut Random) -> (usize, Vec<i16>) {
+    let mut rows = vec![0; d];
+    if wrong.contains(&4) {
+        rows[random.below(d)] = random.pick(&[-256, 256, i16::MIN, i16::MAX]);
+    }
+    if wrong.contains(&5) {
+        rows.extend_from_within(..);
+    }
+    if wrong.contains(&3) {
+        let more = if too_many { (0..513).flat_map(|i| vec![i % 256; d]).collect() } else { vec![0] };
+        rows.extend::<Vec<i16>>(more);
+    }
+    (if wrong.contains(&2) { random.pick(&[0, 7, usize::MAX]) } else { d }, rows)
+}
+
+/// Whatever is wrong at once, the first of the call's order is returned: 2 3 4 13 8 for corners, 2 3 4 5 for a list. With one axis
+/// every length is whole, and no list of corners has more than 256 rows.
+#[test]
+fn orders_of_refusals() {
+    let mut random = Random::new(15);
+    for (d, too_many) in (1..=6).flat_map(|d| [(d, false), (d, true)]) {
+        for wrong in all_sets(&[2, 3, 4, 13, 8]) {
+            if d > 1 || !wrong.contains(&3) && (too_many || !wrong.contains(&13)) {
+                let c = wrong_corners(d, &wrong, too_many, &mut random);
+                assert_eq!(compare_corners(&c).err(), wrong.first().copied(), "{wrong:?} {c:?}");
+            }
+        }
+        for wrong in all_sets(&[2, 3, 4, 5]) {
+            if d > 1 || too_many || !wrong.contains(&3) {
+                let (d, rows) = wrong_list(d, &wrong, too_many, &mut random);
+                assert_eq!(compare_lower(d, &rows).err(), wrong.first().copied(), "{wrong:?} {d} {rows:?}");
+            }
+        }
+    }
+}
+
+/// The same rows in another order.
+fn shuffled(d: usize, list: &[i16], random: &mut Random) -> Vec<i16> {
+    let mut rows: Vec<&[i16]> = list.chunks(d).collect();
+    for i in (1..rows.len()).rev() {
+        rows.swap(i, random.below(i + 1));
+    }
+    rows.concat()
+}
+
+/// The list without the row at a place.
+fn without_row(d: usize, list: &[i16], at: usize) -> Vec<i16> {
+    [&list[..at * d], &list[(at + 1) * d..]].concat()
+}
+
+/// Whether the row stands below another one of the list: is nowhere larger.
+fn below_another(row: &[i16], list: &[i16]) -> bool {
+    list.chunks(row.len()).any(|k| k != row && k.iter().zip(row).all(|(x, y)| x >= y))
+}
+
+/// The list of some corners is lower in every order. Without a row that stands below another it is not; without another row it is.
+/// With a negative component it is not. Its rows, taken as corners, give the list again, and so do those below no other.
+#[test]
+fn lower_lists() {
+    let mut random = Random::new(16);
+    let (mut whole, mut broken, mut back, mut damaged) = (0, 0, 0, Seen::default());
+    for turn in 0..1200 {
+        let d = 1 + turn % 6;
+        let Ok(list) = compare_corners(&any_corners(d, &mut random)) else { continue };
+        let rows = shuffled(d, &list, &mut random);
+        assert_eq!(compare_lower(d, &rows), Ok(true), "{d} {rows:?}");
+        let m = rows.len() / d;
+
+        let at = random.below(m);
+        let (fewer, inner) = (without_row(d, &rows, at), below_another(&rows[at * d..][..d], &rows));
+        assert_eq!(compare_lower(d, &fewer), Ok(!inner), "{d} {fewer:?}");
+        *(if inner { &mut broken } else { &mut whole }) += 1;
+
+        let mut negative = rows.clone();
+        negative[random.below(rows.len())] = random.pick(&[-1, -2, -255]);
+        assert_eq!(compare_lower(d, &negative), Ok(false), "{d} {negative:?}");
+
+        let taken = compare_corners(&Corners::new(d, &rows));
+        assert_eq!(taken, if m <= MOST_CORNERS { Ok(list.clone()) } else { Err(13) }, "{d} {rows:?}");
+        let highest: Vec<&[i16]> = rows.chunks(d).filter(|row| !below_another(row, &rows)).collect();
+        assert_eq!(planner::corner_list(d, &highest.concat()), Ok(list), "{d} {rows:?}");
+        back += usize::from(taken.is_ok());
+
+        let mut c = Case { plan: 1, d, rows, n: 9, z: vec![] };
+        damage_some(&mut c, 3, &mut random);
+        damaged.add(&compare_lower(c.d, &c.rows));
+    }
+    assert!(whole > 100 && broken > 400 && back > 200, "{whole} {broken} {back}");
+    damaged.all_of(&[0, 2, 3, 4, 5], 20);
+}
+
+/// Any rows of small components, of one sign or of both: few lists of them are lower.
+#[test]
+fn lists_that_may_be_lower() {
+    let mut random = Random::new(17);
+    let (mut yes, mut no) = (0, 0);
+    for turn in 0..6000 {
+        let d = 1 + turn % 6;
+        let plan = random.pick(&[1, 2, 2, 2]);
+        let count = random.pick(&[0, 1, 2, 4, 8, 20, 60]);
+        let span = random.pick(&[1, 1, 2, 3]);
+        let rows = different_rows(plan, count, &vec![span; d], &mut random).concat();
+        *(if compare_lower(d, &rows).unwrap() { &mut yes } else { &mut no }) += 1;
+    }
+    assert!(yes > 1000 && no > 1000, "{yes} {no}");
+}
+
+/// Of all lists that can be chosen from the rows of a box, as many are lower as is known: paths through a grid, plane partitions and
+/// Dedekind's numbers.
+#[test]
+fn counted_lower_lists() {
+    let boxes: [(&[i16], usize); 6] =
+        [(&[7], 9), (&[2, 1], 10), (&[2, 2], 20), (&[1, 1, 1], 20), (&[1, 1, 2], 50), (&[1, 1, 1, 1], 168)];
+    for (corner, wanted) in boxes {
+        let d = corner.len();
+        let list = planner::corner_list(d, corner).unwrap();
+        let rows: Vec<&[i16]> = list.chunks(d).collect();
+        let chosen = |set: u32| -> Vec<i16> {
+            rows.iter().enumerate().filter(|(i, _)| set >> i & 1 == 1).flat_map(|(_, row)| row.to_vec()).collect()
+        };
+        let lower = (0..1 << rows.len()).filter(|set| planner::is_lower(d, &chosen(*set)).unwrap()).count();
+        assert_eq!(lower, wanted, "{corner:?}");
+    }
+}
+
+/// A list for a search, of a few corners with small components, in any order.
+fn small_lower_list(d: usize, random: &mut Random) -> Vec<i16> {
+    loop {
+        let count = 1 + random.below(3);
+        let corners: Vec<i16> = (0..count * d).map(|_| random.pick(&[0, 0, 1, 1, 2, 3])).collect();
+        let list = planner::corner_list(d, &corners).unwrap();
+        if (2..=[6, 8, 7, 6][d - 1]).contains(&(list.len() / d)) {
+            return shuffled(d, &list, random);
+        }
+    }
+}
+
+/// The searches on lower lists, where prefixes are dropped early, against every modulus and every vector in order; and on the same
+/// lists without a row, which most often are not lower.
+#[test]
+fn searches_of_lower_lists() {
+    let mut random = Random::new(18);
+    let mut seen = [Seen::default(), Seen::default()];
+    for turn in 0..400 {
+        let plan = (turn % 5) as u8;
+        let d = random.pick(&[1, 2, 2, 3, 3, 4]);
+        let list = small_lower_list(d, &mut random);
+        let fewer = without_row(d, &list, random.below(list.len() / d));
+        let ceiling = 1 + random.below([40, 16, 8, 5][d - 1]) as u16;
+        for rows in [list, fewer] {
+            let c = Case { plan, d, rows, n: ceiling, z: vec![] };
+            seen[0].add(&compare_search(Search::Vector, &c, d));
+            seen[1].add(&compare_search(Search::Smallest, &c, d));
+        }
+    }
+    for seen in &seen {
+        seen.all_of(&[0, 9], 100);
+    }
+}
+
+/// A list that is not lower and has the same admissible pairs as this lower one, where one is known. Under plan 0 the zero row does
+/// not count. Under plan 1 all rows may be moved by the same. Under plans 2 and 3 the zero row forbids nothing that the others allow:
+/// a mirror a - b of residue 0, its positive part a and its negative part b being rows of the list, gives a and b the same residue;
+/// and where b is zero, a and its mirror -a.
+fn equivalent_list(rule: Rule, d: usize, list: &[i16]) -> Option<Vec<i16>> {
+    match rule {
+        Rule::Fourier => Some(list.iter().map(|x| x + 1).collect()),
+        Rule::CosineC => None,
+        _ => Some(list.chunks(d).filter(|row| row.iter().any(|x| *x > 0)).flatten().copied().collect()),
+    }
+}
+
+/// The smallest plan of a lower list and of one that is not lower, but has the same admissible pairs, is the same.
+#[test]
+fn lower_lists_and_others_alike() {
+    let mut random = Random::new(19);
+    let mut compared = [0; 5];
+    for turn in 0..1000 {
+        let rule = Rule::ALL[turn % 5];
+        let c = any_corners(2 + random.below(4), &mut random);
+        let Ok(list) = planner::corner_list(c.d, &c.corners) else { continue };
+        let Some(other) = equivalent_list(rule, c.d, &list) else { continue };
+        if !(2..=16).contains(&(list.len() / c.d)) {
+            continue;
+        }
+        assert_eq!(compare_lower(c.d, &other), Ok(false));
+        let plan = planner::search_smallest(rule, c.d, &list, MOST_MODULUS);
+        assert_eq!(planner::search_smallest(rule, c.d, &other, MOST_MODULUS), plan, "{rule:?} {list:?}");
+        compared[turn % 5] += 1;
+    }
+    assert!(compared[..4].iter().all(|count| *count > 10), "{compared:?}");
+}
+
+/// The examples that were made by corners: their rows are the list of the corners, in its order.
+#[test]
+fn example_tickets() {
+    let degree = rows_of_degree(4, 3).concat();
+    let mixed = [4, 0, 0, 0, 3, 0, 0, 0, 2, 1, 1, 1, 2, 1, 0];
+    let examples: [(usize, &[i16], &str); 2] = [
+        (4, &degree, include_str!("../../../examples/four-axes-degree-3-by-corners.request")),
+        (3, &mixed, include_str!("../../../examples/three-axes-mixed-corners.request")),
+    ];
+    for (d, corners, text) in examples {
+        let fields: Vec<i16> = text.split_whitespace().map(|field| field.parse().unwrap()).collect();
+        let (line, rows) = fields.split_at(4);
+        assert_eq!(rows_given(d, corners), Ok(line[2] as usize), "{text}");
+        assert_eq!(compare_corners(&Corners::new(d, corners)).as_deref(), Ok(rows), "{text}");
+        assert_eq!(line[1] as usize, d, "{text}");
+    }
+}
+
 /// A slice of length 0 may have a null pointer, in every call: a list of no rows with its terms and its map, and what is then refused.
 #[test]
 fn null_pointers() {
@@ -1060,6 +1598,24 @@ fn null_pointers() {
             assert_eq!((m, size, zero), (1, if plan == 1 { 1 } else { 2 }, 0));
         }
     }
+}
+
+/// The same of the corners, of their list's places, and of a list that may be lower.
+#[test]
+fn null_corners() {
+    let (corner, mut out, mut count, mut yes) = ([1i16, 1], [7i16; 1024], 9, 9);
+    unsafe {
+        assert_eq!(sys::planner_corner_list(2, null(), 0, out.as_mut_ptr(), 1024, &mut count), 13);
+        assert_eq!(sys::planner_corner_list(2, null(), 0, null_mut(), 0, &mut count), 13);
+        assert_eq!(sys::planner_corner_list(0, null(), 0, null_mut(), 0, &mut count), 2);
+        assert_eq!(sys::planner_corner_list(2, corner.as_ptr(), 2, null_mut(), 0, &mut count), 8);
+        assert_eq!(sys::planner_is_lower(0, null(), 0, &mut yes), 2);
+    }
+    assert_eq!((out, count, yes), ([7; 1024], 9, 9));
+    unsafe {
+        assert_eq!(sys::planner_is_lower(2, null(), 0, &mut yes), 0);
+    }
+    assert_eq!(yes, 1);
 }
 
 /// What documents 01 and 02 print: the ten trial tickets and the ticket without terms, the lines below them, and the small example of
@@ -1135,8 +1691,9 @@ fn documented() {
 /// The refusals have their numbers, and say what they are.
 #[test]
 fn refusals() {
-    for (i, refusal) in Refusal::ALL.iter().enumerate() {
-        assert_eq!(usize::from(refusal.number()), i + 1);
+    // 12 is the program's own
+    assert_eq!(Refusal::ALL.map(Refusal::number), [1, 2, 3, 4, 5, 6, 7, 8, 9, 10, 11, 13]);
+    for refusal in &Refusal::ALL {
         let error: &dyn std::error::Error = refusal;
         assert!(error.to_string().len() > 10);
     }

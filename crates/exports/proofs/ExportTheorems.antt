@@ -1,7 +1,7 @@
 -- Theorems of the exports, over their contracts alone: 0 is returned exactly where nothing is refused; a refused search leaves z and
--- the place for the modulus as they were, and refused calls of the tally leave theirs; and a call has one outcome, refused or not.
+-- the place for the modulus as they were, and refused calls about lists leave theirs; and a call has one outcome, refused or not.
 use mathlib.Core.Path.{_≡_, refl, sym, ap, subst, _∙_}
-use mathlib.Core.Logic.{_≢_}
+use mathlib.Core.Logic.{_≢_, _↔_}
 use mathlib.Core.Bool.{Bool, true, false}
 use mathlib.Core.List.{List}
 use Prim.Native.Nat.{ℕ, zero, suc}
@@ -13,17 +13,23 @@ use Rattle.rank1.specs.Index.{indexList}
 use Rattle.rank1.specs.Rule.{Admissible}
 use Rattle.rank1.specs.Search.{First, Smallest}
 use Rattle.rank1.specs.Tally.{zeros}
-use Rattle.rank1.specs.Refusal.{searchRefusal}
+use Rattle.rank1.specs.Corners.{Lower}
+use Rattle.rank1.specs.Refusal.{searchRefusal, lowerRefusal}
 use Rattle.lists.specs.declared.Counted.{Counted}
 use Rattle.lists.specs.declared.Least.{Least}
-use Rattle.lists.specs.Answer.{countedOr, countedRefusal, leastOr, leastNumber}
+use Rattle.lists.specs.declared.RowCount.{RowCount}
+use Rattle.lists.specs.declared.RowCount.the-variants as count
+use Rattle.lists.specs.declared.Lowness.{Lowness}
+use Rattle.lists.specs.declared.Lowness.the-variants as lowness
+use Rattle.lists.specs.Answer.{countedOr, countedRefusal, leastOr, leastNumber, rowsNumber, CornerCall, lowerNumber, LowerCall}
+use Rattle.lists.proofs.CornerTheorems.{corner-determined, lower-determined, corner-refused, corner-kept}
 use Rattle.planner.specs.declared.Verdict.{Verdict}
 use Rattle.planner.specs.declared.Plan.{Plan}
 use Rattle.planner.specs.declared.Plan.the-variants.{Found, Refused}
 use Rattle.planner.specs.Answer.{verdict, refusalNumber, RefusedOr, FirstOrNone, SmallestOrNone, VectorSearch, SmallestSearch}
 use Rattle.planner.proofs.SearchTheorems.{Same, search-vector-determined, search-smallest-determined, search-vector-keeps, search-smallest-keeps}
 use Rattle.exports.specs.declared.tally.PlannerTally.{PlannerTally}
-use Rattle.exports.specs.Numbers.{refusalIn, CheckTold, modulusOr, PlanTold, places, numbersOr, CountedTold, leastOrKept, LeastTold}
+use Rattle.exports.specs.Numbers.{refusalIn, CheckTold, modulusOr, PlanTold, places, numbersOr, CountedTold, leastOrKept, LeastTold, countOr, RowsTold, lowerOr, LowerTold}
 
 -- ---- the check
 -- it returns the number of the condition that applies
@@ -135,3 +141,49 @@ counted-told-determined answer before after after′ r r′ x y = (x .number ∙
 
 pub least-told-determined : (answer : Least) (before after after′ r r′ : ℕ) → LeastTold answer before after r → LeastTold answer before after′ r′ → (r ≡ r′) × (after ≡ after′)
 least-told-determined answer before after after′ r r′ x y = (x .number ∙ sym (y .number), x .place ∙ sym (y .place))
+
+-- ---- lists given by corners
+-- 0 means that the front of the run holds the corners' list, with the number of its rows in the place
+pub rows-at-zero : (d : ℕ) (xs before after : List ℤ) (p p′ r : ℕ) → RowsTold (CornerCall d xs before after) p p′ r → r ≡ 0 → CornerCall d xs before after (count.Rows p′)
+rows-at-zero d xs before after p p′ r x e = go (x .answer) (x .meets) (x .place) (sym (x .number) ∙ e)
+  where
+    go : (answer : RowCount) → CornerCall d xs before after answer → p′ ≡ countOr p answer → rowsNumber answer ≡ 0 → CornerCall d xs before after (count.Rows p′)
+    go (count.Rows m) call place none = subst (λ (k : ℕ). CornerCall d xs before after (count.Rows k)) (sym place) call
+    go (count.Refused k) call place none = absurd (corner-refused d xs before after k call none)
+
+-- another number leaves the run and the place as they were
+pub rows-kept : (d : ℕ) (xs before after : List ℤ) (p p′ r : ℕ) → RowsTold (CornerCall d xs before after) p p′ r → r ≢ 0 → (after ≡ before) × (p′ ≡ p)
+rows-kept d xs before after p p′ r x some =
+    (corner-kept d xs before after (x .answer) (x .meets) (λ e. some (x .number ∙ e)), go (x .answer) (x .place) (λ e. some (x .number ∙ e)))
+  where
+    go : (answer : RowCount) → p′ ≡ countOr p answer → rowsNumber answer ≢ 0 → p′ ≡ p
+    go (count.Rows m) place other = absurd (other refl)
+    go (count.Refused k) place other = place
+
+-- 0 of the other call means yes or no, in the place
+pub lower-at-zero : (d : ℕ) (xs : List ℤ) (p p′ r : ℕ) → LowerTold (LowerCall d xs) p p′ r → r ≡ 0 → (lowerRefusal d xs ≡ 0) × ((p′ ≡ 1) ↔ Lower (indexList d xs)) × ((p′ ≡ 0) ↔ (Lower (indexList d xs) → ⊥))
+lower-at-zero d xs p p′ r x e = go (x .answer) (x .meets) (x .place) (sym (x .number) ∙ e)
+  where
+    go : (answer : Lowness) → LowerCall d xs answer → p′ ≡ lowerOr p answer → lowerNumber answer ≡ 0 → (lowerRefusal d xs ≡ 0) × ((p′ ≡ 1) ↔ Lower (indexList d xs)) × ((p′ ≡ 0) ↔ (Lower (indexList d xs) → ⊥))
+    go lowness.Lower call place none = (call .0, ((λ f. call .1), (λ low. place)), ((λ f. absurd (omega (arith, place, f))), (λ no. absurd (no (call .1)))))
+    go lowness.NotLower call place none = (call .0, ((λ f. absurd (omega (arith, place, f))), (λ low. absurd (call .1 low))), ((λ f. call .1), (λ no. place)))
+    go (lowness.Refused k) call place none = absurd (call .1 none)
+
+pub lower-kept : (d : ℕ) (xs : List ℤ) (p p′ r : ℕ) → LowerTold (LowerCall d xs) p p′ r → r ≢ 0 → p′ ≡ p
+lower-kept d xs p p′ r x some = go (x .answer) (x .place) (λ e. some (x .number ∙ e))
+  where
+    go : (answer : Lowness) → p′ ≡ lowerOr p answer → lowerNumber answer ≢ 0 → p′ ≡ p
+    go lowness.Lower place other = absurd (other refl)
+    go lowness.NotLower place other = absurd (other refl)
+    go (lowness.Refused k) place other = place
+
+-- one outcome: the number, the run and the place
+pub rows-told-determined : (d : ℕ) (xs before after after′ : List ℤ) (p p′ p″ r r′ : ℕ) → RowsTold (CornerCall d xs before after) p p′ r → RowsTold (CornerCall d xs before after′) p p″ r′ → (r ≡ r′) × (after ≡ after′) × (p′ ≡ p″)
+rows-told-determined d xs before after after′ p p′ p″ r r′ x y =
+    let same = corner-determined d xs before after after′ (x .answer) (y .answer) (x .meets) (y .meets) in
+    (x .number ∙ ap rowsNumber (same .0) ∙ sym (y .number), same .1, x .place ∙ ap (countOr p) (same .0) ∙ sym (y .place))
+
+pub lower-told-determined : (d : ℕ) (xs : List ℤ) (p p′ p″ r r′ : ℕ) → LowerTold (LowerCall d xs) p p′ r → LowerTold (LowerCall d xs) p p″ r′ → (r ≡ r′) × (p′ ≡ p″)
+lower-told-determined d xs p p′ p″ r r′ x y =
+    let same = lower-determined d xs (x .answer) (y .answer) (x .meets) (y .meets) in
+    (x .number ∙ ap lowerNumber same ∙ sym (y .number), x .place ∙ ap (lowerOr p) same ∙ sym (y .place))

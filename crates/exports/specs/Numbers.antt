@@ -1,5 +1,5 @@
 -- The answers of the calls as numbers: what an export returns, and what the places lent for what it finds hold afterwards: yes or no, the
--- modulus, the record.
+-- modulus, the record, the number of rows.
 use mathlib.Core.Path.{_≡_}
 use mathlib.Core.Bool.{not}
 use Prim.Native.Nat.{ℕ}
@@ -11,12 +11,23 @@ use Rattle.lists.specs.declared.Counted.{Counted}
 use Rattle.lists.specs.declared.Counted.the-variants as counted
 use Rattle.lists.specs.declared.Least.{Least}
 use Rattle.lists.specs.declared.Least.the-variants as least
-use Rattle.lists.specs.Answer.{countedRefusal, leastNumber}
+use Rattle.lists.specs.declared.RowCount.{RowCount}
+use Rattle.lists.specs.declared.RowCount.the-variants as count
+use Rattle.lists.specs.declared.Lowness.{Lowness}
+use Rattle.lists.specs.declared.Lowness.the-variants as lowness
+use Rattle.lists.specs.Answer.{countedRefusal, leastNumber, rowsNumber, lowerNumber}
 use Rattle.planner.specs.declared.Verdict.{Verdict}
 use Rattle.planner.specs.declared.Verdict.the-variants as verdicts
 use Rattle.planner.specs.declared.Plan.{Plan}
 use Rattle.planner.specs.declared.Plan.the-variants as found
 use Rattle.planner.specs.Answer.{refusalNumber}
+
+-- a call has an answer that meets its promise; what is returned, and what a lent place holds afterwards, are those of it
+pub record Told {A : Type 0} (numberIn : A → ℕ) (placeOr : ℕ → A → ℕ) (Promise : A → Type 0) (before after returned : ℕ) : Type 0 where
+  pub answer : A
+  pub meets : Promise answer
+  pub number : returned ≡ numberIn answer
+  pub place : after ≡ placeOr before answer
 
 -- ---- the check
 -- the number of the refusal, 0 for none
@@ -42,12 +53,9 @@ abbrev pub modulusOr : ℕ → Plan → ℕ
 modulusOr before (found.Found n) = n
 modulusOr before (found.Refused k) = before
 
--- the planner has an answer that meets its call's promise; what is returned, and the place afterwards, are those of it
-pub record PlanTold (Promise : Plan → Type 0) (before after returned : ℕ) : Type 0 where
-  pub answer : Plan
-  pub meets : Promise answer
-  pub number : returned ≡ refusalNumber answer
-  pub place : after ≡ modulusOr before answer
+-- what is returned, and the place afterwards, are those of the planner's answer
+abbrev pub PlanTold : (Plan → Type 0) → ℕ → ℕ → ℕ → Type 0
+PlanTold = Told refusalNumber modulusOr
 
 -- ---- the running tally
 -- the record that the numbers of a call in C stand for: 0 is no, any other number yes
@@ -77,3 +85,22 @@ leastOrKept before (least.Refused k) = before
 pub record LeastTold (answer : Least) (before after returned : ℕ) : Type 0 where
   pub number : returned ≡ leastNumber answer
   pub place : after ≡ leastOrKept before answer
+
+-- ---- lists given by corners
+-- the number of rows; where the call is refused, what the place held before
+abbrev pub countOr : ℕ → RowCount → ℕ
+countOr before (count.Rows m) = m
+countOr before (count.Refused k) = before
+
+-- what is returned, and the place afterwards, are those of the call's answer
+abbrev pub RowsTold : (RowCount → Type 0) → ℕ → ℕ → ℕ → Type 0
+RowsTold = Told rowsNumber countOr
+
+-- 1 for yes and 0 for no; where the call is refused, what the place held before
+abbrev pub lowerOr : ℕ → Lowness → ℕ
+lowerOr before lowness.Lower = 1
+lowerOr before lowness.NotLower = 0
+lowerOr before (lowness.Refused k) = before
+
+abbrev pub LowerTold : (Lowness → Type 0) → ℕ → ℕ → ℕ → Type 0
+LowerTold = Told lowerNumber lowerOr

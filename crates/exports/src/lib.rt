@@ -1,7 +1,8 @@
 // The planner's calls for programs in C and Rust to link (include/planner.h has them for C). Every export returns the number of
 // the refusal, 0 for none. What a call finds beside that, yes or no or the modulus, goes to a lent place, which keeps its content
-// where the call is refused. The calls about lists alone stand in tally.rt.
+// where the call is refused. The calls about lists alone stand in tally.rt and corners.rt.
 
+mod corners;
 mod tally;
 
 ghost use mathlib.Core.Path.{_≡_};

@@ -2,5 +2,7 @@
 pub mod MaskLaws
 pub mod RecountLaws
 pub mod CallLaws
+pub mod CornerCalls
 pub mod AnswerLaws
 pub mod TallyTheorems
+pub mod CornerTheorems

@@ -1,20 +1,46 @@
-// Calls about lists alone (document 02): the running tally, request b. Every public call takes any arguments, refuses wrong ones by
-// number, and writes nothing. What is counted of one row serves the planner too.
+// Calls about lists alone (document 02): the running tally, request b, and lists given by corners, request c. Every public call takes
+// any arguments, and refuses wrong ones by number before it writes anything. What is counted of one row, and copying one, serve the
+// planner too.
 
 mod bound;
+mod corners;
 mod counting;
+mod lower;
+mod rows;
 
 use rank1::Tally;
 ghost use mathlib.Core.Path.{_≡_};
+ghost use mathlib.Core.Bool.{not};
 ghost use Prim.Native.Nat.{_^_, _≤_, _<_};
 ghost use lib.Count.{ones};
 ghost use lib.ListN.{length};
 ghost use Rattle.rank1.specs.Index.{mirrors, nonzeros};
-ghost use Rattle.lists.specs.Rows.{mostAxes, onAxes};
-ghost use Rattle.lists.specs.Answer.{tallyAnswer, addAnswer, leastAnswer};
+ghost use Rattle.rank1.specs.Refusal.{within};
+ghost use Rattle.lists.specs.Rows.{mostAxes, onAxes, placed};
+ghost use Rattle.lists.specs.Answer.{tallyAnswer, addAnswer, leastAnswer, CornerCall, LowerCall};
 
-// The largest number of axes.
+// The largest number of axes, and of rows; the numbers that so many rows have at most.
 const AXES: usize = 6;
+
+const MOST_ROWS: usize = 512;
+
+const ROW_ROOM: usize = MOST_ROWS * AXES;
+
+// The largest number of corners.
+const MOST_CORNERS: usize = 32;
+
+// Copies a row behind the first `at` numbers of a run; where it does not fit there, the run stays as it is.
+pub fn copy_row(row: &[i16], run: &mut [i16], at: usize)
+    ensures { λ _. ⌜ now (run .exit) ≡ placed at (now (row .entry)) (now (run .entry)) ⌝ }
+{
+    if run.len() < at {
+        return;
+    }
+    if run.len() - at < row.len() {
+        return;
+    }
+    rows::copy(row, run, at);
+}
 
 // The axes on which a row of at most six components is not 0, as bits.
 fn mask_of(row: &[i16]) -> u32
@@ -108,4 +134,70 @@ pub fn least_modulus(plan: u8, tally: Tally) -> Least
         return Least::Refused(kept);
     }
     Least::Modulus(bound::least_of(plan, tally) as u16)
+}
+
+// What a call answers that writes rows to the front of a lent run: how many there are, or a refusal.
+pub enum RowCount {
+    Rows(usize),
+    Refused(u8),
+}
+
+// Condition 13 of the number of corners: not 1 to 32.
+fn corners_outside(m: usize) -> bool
+    ensures { λ r. ⌜ r ≡ not (within 1 32 m) ⌝ }
+{
+    if m < 1 {
+        return true;
+    }
+    MOST_CORNERS < m
+}
+
+// The list of the corners: fills the front of `out` with its rows. They are made in places of our own, since 13 stands before 8.
+pub fn corner_list(d: usize, corners: &[i16], out: &mut [i16]) -> RowCount
+    ensures { λ r. ⌜ CornerCall d (now (corners .entry)) (now (out .entry)) (now (out .exit)) r ⌝ }
+{
+    let refused = refusal::corner_refusal(d, corners);
+    if refused != 0 {
+        return RowCount::Refused(refused);
+    }
+    let m = corners.len() / d;
+    if corners_outside(m) {
+        return RowCount::Refused(13);
+    }
+    let mut rows = [0i16; ROW_ROOM];
+    let count = corners::fill(d, corners, m, &mut rows);
+    if MOST_ROWS < count {
+        return RowCount::Refused(13);
+    }
+    let places = refusal::places_refusal(out.len(), MOST_ROWS * d);
+    if places != 0 {
+        return RowCount::Refused(places);
+    }
+    rows::copy(&rows[..count * d], out, 0);
+    RowCount::Rows(count)
+}
+
+// Whether a list is lower, or a refusal.
+pub enum Lowness {
+    Lower,
+    NotLower,
+    Refused(u8),
+}
+
+// A plan under which components may be negative.
+const FOURIER: u8 = 1;
+
+// Whether a list is lower: with a row, every row without negative components that is nowhere larger is in too.
+pub fn is_lower(d: usize, rows: &[i16]) -> Lowness
+    ensures { λ r. ⌜ LowerCall d (now (rows .entry)) r ⌝ }
+{
+    let refused = refusal::list_refusal(FOURIER, d, rows);
+    if refused != 0 {
+        return Lowness::Refused(refused);
+    }
+    if lower::list_steps(d, rows) {
+        Lowness::Lower
+    } else {
+        Lowness::NotLower
+    }
 }

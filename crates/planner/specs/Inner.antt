@@ -16,11 +16,6 @@ use Rattle.rank1.specs.Valid.{Distinct, ValidModulus}
 use Rattle.rank1.specs.Axes.{ZeroFrom}
 use Rattle.planner.specs.Sizes.{axes, mostRows, mostMirrors, largestSize, middle, places, productRoom}
 
--- b is true exactly where P holds
-pub record Decides (b : Bool) (P : Type 0) : Type 0 where
-  pub yes : b ≡ true → P
-  pub no : b ≡ false → P → ⊥
-
 -- ---- product tables: so many places for each axis, one for each component of a row or of a difference
 -- where the product of a component stands among the places of its axis
 abbrev pub place : ℤ → ℕ

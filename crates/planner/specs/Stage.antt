@@ -23,7 +23,7 @@ use Rattle.rank1.specs.Refusal.{searchRefusal, tallyRefusal}
 use Rattle.planner.specs.Answer.{RefusedOr}
 use Rattle.planner.specs.Sizes.{axes, lasts, room, places, productRoom, largestModulus, solutionRoom}
 use Rattle.planner.specs.Inner.{KeptBelow, Products, Covered}
-use Rattle.planner.specs.Levels.{Levels}
+use Rattle.planner.specs.Levels.{ending, Levels}
 use Rattle.planner.specs.Exchange.{Swaps}
 use Rattle.planner.specs.Table.{FlipMarks}
 use Rattle.planner.specs.Runs.{column, Bounds, Arranged}
@@ -227,6 +227,12 @@ pub record SumsAdded (n d at : ℕ) (components : List ℤ) (bounds products old
       (before e : ℕ) → at ≡ suc before → getD bounds ((at + 1) * lasts) 0 ≤ e → e < getD bounds (d * lasts) 0
       → getD new (at * room + e) 0 ≡ partAt n before components products old e
 
+-- whether the rule holds on the rows that are 0 from axis at on. False: nothing that begins so meets the rule. True: they meet it with
+-- the components that are fixed, unless every difference is struck and so nothing was tested here
+pub record EndsHold (s : Search) (at : ℕ) (rows : List ℤ) (z : List ℕ) (r : Bool) : Type 0 where
+  pub none : r ≡ false → NoneFrom (Admissible (s .plan) (indexList (s .d) rows)) (s .d) (s .n) at z
+  pub tested : s .sieved ≡ false → r ≡ true → Admissible (s .plan) (ending at (indexList (s .d) rows)) (s .n) (map pos (take at z))
+
 -- what trying v for component at asks
 pub record Triable (s : Search) (at v : ℕ) (rows levels : List ℤ) (sizes z products owners : List ℕ) : Type 0 where
   pub listed : Listed (s .plan) (s .d) (s .top) rows levels sizes
@@ -235,12 +241,14 @@ pub record Triable (s : Search) (at v : ℕ) (rows levels : List ℤ) (sizes z p
   pub within : at < s .d
   pub less : v < s .values
 
--- component at is set to v: with true its products are set too, with false no first vector begins so
+-- component at is set to v: with true its products are set too, and the rows that end there meet the rule (unless every difference is
+-- struck), with false no first vector begins so
 pub record Tried (s : Search) (at v : ℕ) (rows : List ℤ) (z products z′ products′ owners′ : List ℕ) (r : Bool) : Type 0 where
   pub stored : z′ ≡ set z at v
   pub kept-products : KeptBelow (at * places) products products′
   pub prefix : r ≡ true → Prefixed s (at + 1) z′ products′ owners′
   pub none : r ≡ false → NoFirstFrom (Admissible (s .plan) (indexList (s .d) rows)) (s .d) (s .n) (s .values) (at + 1) z′
+  pub tested : s .sieved ≡ false → r ≡ true → Admissible (s .plan) (ending (at + 1) (indexList (s .d) rows)) (s .n) (map pos (take (at + 1) z′))
 
 -- what completing z from component k on gives: the new vector x, and whether it is one
 pub record Completed (rule : Rule) (d n b k : ℕ) (z x : List ℕ) (r : Bool) : Type 0 where

@@ -6,14 +6,12 @@ ghost use Prim.Native.Nat.{_+_, _≤_};
 ghost use lib.ListN.{length, take, drop};
 ghost use Rattle.planner.specs.Table.{LastAxis};
 
-// Copies a row behind the first `at` numbers of a run.
+// Copies a row behind the first `at` numbers of a run, where it fits.
 pub(crate) fn copy_row(h: &[i16], rows: &mut [i16], at: usize)
     requires { ⌜ at + length (now h) ≤ length (now rows) ⌝ }
     ensures { λ _. ⌜ now (rows .exit) ≡ take at (now (rows .entry)) ++ take (length (now (h .entry))) (now (h .entry)) ++ drop (at + length (now (h .entry))) (now (rows .entry)) ⌝ }
 {
-    for j in 0..h.len() {
-        rows[at + j] = h[j];
-    }
+    lists::copy_row(h, rows, at);
 }
 
 // The last axis at which a row is not 0; the first where there is none.

@@ -18,12 +18,13 @@ ghost use mathlib.Core.List.{List, map, List·Memᴰ};
 ghost use Prim.Native.Nat.{_≤_, _<_};
 ghost use lib.IntN.{ℤ, pos};
 ghost use lib.ListN.{length};
+ghost use Rattle.rank1.specs.Tests.{Decides};
 ghost use Rattle.rank1.specs.Index.{indexList, rowCount};
 ghost use Rattle.rank1.specs.Rule.{Integrates, PlanA, Admissible};
 ghost use Rattle.rank1.specs.RuleTest.{admissible};
 ghost use Rattle.rank1.specs.Valid.{Nonnegative, ValidCall};
 ghost use Rattle.planner.specs.Sizes.{mostRows};
-ghost use Rattle.planner.specs.Inner.{Decides, Ready, Owners, Recorded, Clear, residueOf, clash};
+ghost use Rattle.planner.specs.Inner.{Ready, Owners, Recorded, Clear, residueOf, clash};
 
 // Empties the first n entries of a table.
 pub(crate) fn clear(table: &mut [u16], n: usize)

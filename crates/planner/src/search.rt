@@ -28,10 +28,8 @@ ghost use mathlib.Core.Path.{_≡_};
 ghost use mathlib.Core.Bool.{true, false};
 ghost use Prim.Native.Nat.{_+_, _*_, _≤_, _<_};
 ghost use lib.ListN.{length};
-ghost use Rattle.rank1.specs.Index.{indexList};
-ghost use Rattle.rank1.specs.Rule.{Admissible};
 ghost use Rattle.planner.specs.Sizes.{axes, largestModulus};
-ghost use Rattle.planner.specs.Stage.{Listed, Prefixed, NoneFrom, Raised, Lowest, ValueEnd, NextFree, CannotLead, Siftable, Sifted, Summable, SumsAdded, Triable, Tried, listTables, modulusTables, work, ruleOf, Stage, KeptBefore, Completed};
+ghost use Rattle.planner.specs.Stage.{Listed, Prefixed, EndsHold, Raised, Lowest, ValueEnd, NextFree, CannotLead, Siftable, Sifted, Summable, SumsAdded, Triable, Tried, listTables, modulusTables, work, ruleOf, Stage, KeptBefore, Completed};
 
 // What a search at one modulus is about; it goes down the recursion by value: the plan, the number of axes, the modulus, how many
 // values of a component are tried, the largest size of a component of a row or of a difference, the largest last component of a
@@ -125,7 +123,7 @@ fn ends_hold(
 ) -> bool
     requires { ⌜ Listed (s .plan) (s .d) (s .top) (now rows) (now levels) (now sizes) ⌝ }
     requires { ⌜ Prefixed s at (now z) (now products) (now owners) ⌝ }
-    ensures { λ r. ⌜ (r ≡ false → NoneFrom (Admissible (s .plan) (indexList (s .d) (now (rows .entry)))) (s .d) (s .n) at (now (z .entry))) ⌝ }
+    ensures { λ r. ⌜ EndsHold s at (now (rows .entry)) (now (z .entry)) r ⌝ }
 {
     if s.sieved {
         return true;

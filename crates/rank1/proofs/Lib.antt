@@ -1,4 +1,4 @@
--- The laws of the definitions in specs/: numbers, lists, mirrors, the rules, the searches, the sums, the tally.
+-- The laws of the definitions in specs/: numbers, lists, mirrors, the rules, the searches, the sums, the tally, lists given by corners.
 pub mod Whole
 pub mod Modulo
 pub mod ResidueLaws
@@ -37,3 +37,9 @@ pub mod ZeroRowLaws
 pub mod BoundLaws
 pub mod LongerLaws
 pub mod TallyTrials
+pub mod RunLaws
+pub mod UnderLaws
+pub mod CornerLaws
+pub mod LowerLaws
+pub mod ShortLaws
+pub mod CornerTrials

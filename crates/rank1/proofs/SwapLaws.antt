@@ -177,7 +177,6 @@ pub swap-symmetry : (i j : ℕ) (ks : List (List ℤ)) → Interchangeable i j k
 swap-symmetry i j ks closed = record {
   keeps = closed;
   one-one = swap-inj i j;
-  empty = refl;
   zero-row = λ k e.
       sym (swap-swap i j k) ∙ ap (swap i j) e ∙ swap-same i j (length (swap i j k)) (pos 0) ∙ ap zeroRow (length-swap i j k);
   same = λ s k e. map-swap natAbs i j s ∙ ap (swap i j) e ∙ sym (map-swap natAbs i j k);

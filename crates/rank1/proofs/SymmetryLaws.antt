@@ -1,6 +1,7 @@
--- Rows moved by a function that keeps the list, its zero row and its mirrors: the pairs of rows that a plan keeps apart go to
--- such pairs. So a vector with which each row has the residue that the moved row has with z is admissible with z (`symmetric`); and
--- if z is the first vector below a bound, that one does not come before it (`none-lower`).
+-- Rows moved by a function into a list: where it tells rows, zero rows and mirrors from others and their residues stay, the rule comes
+-- back from that list (`carried`). So with a function that keeps the list, a vector with which each row has the residue that the moved
+-- row has with z is admissible with z (`symmetric`); and if z is the first vector below a bound, that one does not come before it
+-- (`none-lower`).
 use mathlib.Core.Path.{_≡_, sym, _∙_, ap, subst}
 use mathlib.Core.Logic.{inl, inr, ⊎-elim}
 use mathlib.Core.List.{List, [], _∷_, map, map-map, List·Memᴰ}
@@ -11,57 +12,84 @@ use lib.IntN.{ℤ, pos}
 use lib.ListN.{length, getD}
 use Rattle.rank1.specs.Residue.{residue, residueAt}
 use Rattle.rank1.specs.Index.{zeroRow, mirrors, mirrored}
-use Rattle.rank1.specs.Rule.{Rule, Admissible}
+use Rattle.rank1.specs.Rule.{Integrates, Reconstructs, PlanA, PlanB, PlanC, Rule, Admissible}
 use Rattle.rank1.specs.Search.{Before, InRange, FirstBelow}
 use Rattle.rank1.specs.Differences.{Apart}
 use Rattle.rank1.proofs.Order.{compared}
-use Rattle.rank1.proofs.MirrorLaws.{sizes, mirror-sizes, sizes-mirror, mirrored-in, mirrored-out}
-use Rattle.rank1.proofs.RuleLaws.{one-rule, apart-rows, Reduces}
+use Rattle.rank1.proofs.MirrorLaws.{sizes, mirror-self, mirror-sizes, sizes-mirror, Mirror, mirrored-in, mirrored-out}
+use Rattle.rank1.proofs.RuleLaws.{one-rule, Reduces}
 use Rattle.rank1.proofs.SearchLaws.{residues-ranged, none-before}
 
+-- ---- rows moved into a list
+-- f moves the rows of ks to rows of ks′ and their mirrors along, no two of these to one row, and only zero rows to zero rows; a moved row
+-- has with z′ the residue that the row has with z
+pub record Moves (ks ks′ : List (List ℤ)) (n : ℕ) (z z′ : List ℤ) (f : List ℤ → List ℤ) : Type 0 where
+  pub row : (k : List ℤ) → List·Memᴰ k ks → List·Memᴰ (f k) ks′
+  pub mirror : (k s : List ℤ) → List·Memᴰ k ks → List·Memᴰ s (mirrors k) → List·Memᴰ (f s) (mirrors (f k))
+  pub one-one : (s t : List ℤ) → Mirror ks s → Mirror ks t → f s ≡ f t → s ≡ t
+  pub zero-row : (k : List ℤ) → List·Memᴰ k ks → f k ≡ zeroRow (length (f k)) → k ≡ zeroRow (length k)
+  pub residue : (s : List ℤ) → Mirror ks s → residueAt n z′ (f s) ≡ residueAt n z s
+
+module _ (ks ks′ : List (List ℤ)) (n : ℕ) (z z′ : List ℤ) (f : List ℤ → List ℤ) (y : Moves ks ks′ n z z′ f) where
+  -- a row is one of its mirrors
+  self : (k : List ℤ) → List·Memᴰ k ks → Mirror ks k
+  self k m = record { row = k; listed = m; mirror = mirror-self k }
+
+  of : (k s : List ℤ) → List·Memᴰ k ks → List·Memᴰ s (mirrors k) → Mirror ks s
+  of k s m i = record { row = k; listed = m; mirror = i }
+
+  -- a member of M goes to a member of M
+  mirrored-moved : (s : List ℤ) → Mirror ks s → List·Memᴰ (f s) (mirrored ks′)
+  mirrored-moved s r = mirrored-in ks′ (f (r .row)) (f s) (y .row (r .row) (r .listed)) (y .mirror (r .row) s (r .listed) (r .mirror))
+
+  -- equal residues stay equal
+  equal : (s t : List ℤ) → Mirror ks s → Mirror ks t → residueAt n z s ≡ residueAt n z t → residueAt n z′ (f s) ≡ residueAt n z′ (f t)
+  equal s t p q e = y .residue s p ∙ e ∙ sym (y .residue t q)
+
+  -- so whatever the plan keeps apart in ks it keeps apart in ks′
+  pub carried : (plan : ℕ) → Admissible plan ks′ n z′ → Admissible plan ks n z
+  unfolding Integrates Reconstructs PlanA PlanB PlanC
+  carried zero a = λ k m d e. a (f k) (y .row k m) (λ q. d (y .zero-row k m q)) (y .residue k (self k m) ∙ e)
+  carried (suc zero) a = λ k k′ m m′ d e.
+      a (f k) (f k′) (y .row k m) (y .row k′ m′) (λ q. d (y .one-one k k′ (self k m) (self k′ m′) q)) (equal k k′ (self k m) (self k′ m′) e)
+  carried (suc (suc zero)) a = λ s s′ m m′ d e.
+      let p = mirrored-out ks s m in
+      let p′ = mirrored-out ks s′ m′ in
+      a (f s) (f s′) (mirrored-moved s p) (mirrored-moved s′ p′) (λ q. d (y .one-one s s′ p p′ q)) (equal s s′ p p′ e)
+  carried (suc (suc (suc zero))) a = λ k k′ s m m′ i d e.
+      a (f k) (f k′) (f s) (y .row k m) (y .row k′ m′) (y .mirror k′ s m′ i)
+      (λ q. d (y .one-one s k (of k′ s m′ i) (self k m) q)) (equal s k (of k′ s m′ i) (self k m) e)
+  carried (suc (suc (suc (suc zero)))) a = λ k k′ s m m′ d i e.
+      a (f k) (f k′) (f s) (y .row k m) (y .row k′ m′) (λ q. d (y .one-one k k′ (self k m) (self k′ m′) q)) (y .mirror k′ s m′ i)
+      (equal s k (of k′ s m′ i) (self k m) e)
+  carried (suc (suc (suc (suc (suc q))))) a = a
+
+-- ---- rows moved within their list
 -- a function of rows that keeps the list, and tells rows, zero rows and mirrors from others
 pub record Symmetry (ks : List (List ℤ)) (f : List ℤ → List ℤ) : Type 0 where
   pub keeps : (k : List ℤ) → List·Memᴰ k ks → List·Memᴰ (f k) ks
   pub one-one : (s t : List ℤ) → f s ≡ f t → s ≡ t
-  pub empty : f [] ≡ []
   pub zero-row : (k : List ℤ) → f k ≡ zeroRow (length (f k)) → k ≡ zeroRow (length k)
   pub same : (s k : List ℤ) → sizes s ≡ sizes k → sizes (f s) ≡ sizes (f k)
 
--- ---- pairs that a plan keeps apart go to such pairs
-module _ (ks : List (List ℤ)) (f : List ℤ → List ℤ) (y : Symmetry ks f) where
-  -- a mirror of k goes to a mirror of the moved k
-  mirror-moved : (k s : List ℤ) → List·Memᴰ s (mirrors k) → List·Memᴰ (f s) (mirrors (f k))
-  mirror-moved k s m = sizes-mirror (f k) (f s) (y .same s k (mirror-sizes k s m))
+-- under every plan, where z′ gives the rows the residues that z gives the moved rows
+pub symmetric : (plan : ℕ) (ks : List (List ℤ)) (n : ℕ) (z z′ : List ℤ) (f : List ℤ → List ℤ) → Symmetry ks f → ((k s : List ℤ) → List·Memᴰ k ks → List·Memᴰ s (mirrors k) → residueAt n z (f s) ≡ residueAt n z′ s) → Admissible plan ks n z → Admissible plan ks n z′
+symmetric plan ks n z z′ f y equal =
+    carried ks ks n z′ z f
+    (record {
+      row = y .keeps;
+      mirror = λ k s m i. sizes-mirror (f k) (f s) (y .same s k (mirror-sizes k s i));
+      one-one = λ s t p q. y .one-one s t;
+      zero-row = λ k m. y .zero-row k;
+      residue = λ s p. equal (p .row) s (p .listed) (p .mirror);
+    })
+    plan
 
-  -- a member of M goes to a member of M
-  mirrored-moved : (s : List ℤ) → List·Memᴰ s (mirrored ks) → List·Memᴰ (f s) (mirrored ks)
-  mirrored-moved s m =
-      let r = mirrored-out ks s m in
-      mirrored-in ks (f (r .row)) (f s) (y .keeps (r .row) (r .listed)) (mirror-moved (r .row) s (r .mirror))
-
-  -- the pairs, plan by plan
-  pub apart-moved : (plan : ℕ) (s t : List ℤ) → Apart plan ks s t → Apart plan ks (f s) (f t)
-  apart-moved zero s t p = (y .keeps s (p .0), (λ e. p .1 (y .zero-row s e)), ap f (p .2) ∙ y .empty)
-  apart-moved (suc zero) s t p = (y .keeps s (p .0), y .keeps t (p .1), (λ e. p .2 (y .one-one s t e)))
-  apart-moved (suc (suc zero)) s t p = (mirrored-moved s (p .0), mirrored-moved t (p .1), (λ e. p .2 (y .one-one s t e)))
-  apart-moved (suc (suc (suc zero))) s t p =
-      (f (p .0), y .keeps t (p .1), y .keeps (p .0) (p .2), mirror-moved (p .0) s (p .3), (λ e. p .4 (y .one-one s t e)))
-  apart-moved (suc (suc (suc (suc zero)))) s t p =
-      (f (p .0), y .keeps t (p .1), y .keeps (p .0) (p .2), (λ e. p .3 (y .one-one t (p .0) e)), mirror-moved (p .0) s (p .4))
-  apart-moved (suc (suc (suc (suc (suc q))))) s t p = (ap f (p .0) ∙ y .empty, ap f (p .1) ∙ y .empty)
-
--- ---- the rule is carried over to another vector, with rows moved by f
--- z′ gives the rows of the pairs the residues that z gives the moved rows
+-- the same where only the pairs that the plan keeps apart go to such pairs
 pub moved : (plan : ℕ) (ks : List (List ℤ)) (n : ℕ) (z z′ : List ℤ) (f : List ℤ → List ℤ) → ((s t : List ℤ) → Apart plan ks s t → Apart plan ks (f s) (f t)) → ((s t : List ℤ) → Apart plan ks s t → (residueAt n z (f s) ≡ residueAt n z′ s) × (residueAt n z (f t) ≡ residueAt n z′ t)) → Admissible plan ks n z → Admissible plan ks n z′
 moved plan ks n z z′ f pairs equal a =
     one-rule ks n z′ plan .1
     (λ s t p e. let q = equal s t p in one-rule ks n z plan .0 a (f s) (f t) (pairs s t p) (q .0 ∙ e ∙ sym (q .1)))
-
--- under every plan, where f is a symmetry
-pub symmetric : (plan : ℕ) (ks : List (List ℤ)) (n : ℕ) (z z′ : List ℤ) (f : List ℤ → List ℤ) → Symmetry ks f → ((k s : List ℤ) → List·Memᴰ k ks → List·Memᴰ s (mirrors k) → residueAt n z (f s) ≡ residueAt n z′ s) → Admissible plan ks n z → Admissible plan ks n z′
-symmetric plan ks n z z′ f y equal =
-    moved plan ks n z z′ f (apart-moved ks f y plan)
-    (apart-rows (λ s. residueAt n z (f s) ≡ residueAt n z′ s) plan ks equal (ap (residueAt n z) (y .empty)))
 
 -- ---- the first vector below a bound
 -- residues that are the components of z before an axis, and less there, come before z

@@ -3,7 +3,7 @@
 use mathlib.Core.Path.{_≡_, refl, sym, _∙_, ap, subst}
 use mathlib.Core.Logic.{_↔_, _≢_, ⊎-elim}
 use mathlib.Core.Bool.{Bool, true, false, not, _&&_, _||_}
-use mathlib.Core.List.{List, [], _∷_, List·Memᴰ, List·Memᴰ·head, List·Memᴰ·tail, List·Memᴰ·not-nil, List·Memᴰ·cases-cons}
+use mathlib.Core.List.{List, [], _∷_, List·Memᴰ, List·Memᴰ·head, List·Memᴰ·tail, List·Memᴰ·not-nil, List·Memᴰ·cases-cons, Memᴰ·cast}
 use Prim.Native.Nat.{ℕ, suc, _<_}
 use native.Mathlib.Omega.{arith}
 use lib.Dec.{T, eqb, eqb→eq, eqb-refl, T-not, not-T}
@@ -109,6 +109,27 @@ module _ {A : Type 0} where
   false-any f [] h = refl
   false-any f (x ∷ xs) h = neither (f x) (any f xs) (h x (List·Memᴰ·head refl)) (false-any f xs (λ y m. h y (List·Memᴰ·tail m)))
 
+  -- some member passes
+  pub record Some (f : A → Bool) (xs : List A) : Type 0 where
+    pub found : A
+    pub listed : List·Memᴰ found xs
+    pub passes : T (f found)
+
+  pub some-of : (f : A → Bool) (xs : List A) → T (any f xs) → Some f xs
+  some-of f [] t = absurd t
+  some-of f (x ∷ xs) t = go (f x) refl t (some-of f xs)
+    where
+      go : (b : Bool) → f x ≡ b → T (b || any f xs) → (T (any f xs) → Some f xs) → Some f (x ∷ xs)
+      go true e u rest = record { found = x; listed = List·Memᴰ·head refl; passes = true-holds (f x) e }
+      go false e u rest = let s = rest u in record { found = s .found; listed = List·Memᴰ·tail (s .listed); passes = s .passes }
+
+  pub of-some : (f : A → Bool) (xs : List A) (x : A) → List·Memᴰ x xs → T (f x) → T (any f xs)
+  of-some f xs x m t = go (any f xs) refl
+    where
+      go : (b : Bool) → any f xs ≡ b → T b
+      go true e = tt
+      go false e = false-fails (f x) (any-false f xs e x m) t
+
 -- ---- equal numbers and equal rows
 pub decides-eqb : (a b : ℕ) → T (eqb a b) ↔ (a ≡ b)
 decides-eqb a b = (eqb→eq a b, λ e. subst (λ (c : ℕ). T (eqb a c)) e (eqb-refl a))
@@ -149,29 +170,13 @@ row-false s t = decided-false (sameRow s t) (decides-row s t)
 
 -- a row is one of a list
 among-yes : (k : List ℤ) (ks : List (List ℤ)) → T (any (sameRow k) ks) → List·Memᴰ k ks
-among-yes k [] h = absurd h
-among-yes k (l ∷ ks) h = go (sameRow k l) refl h (among-yes k ks)
-  where
-    go : (b : Bool) → sameRow k l ≡ b → T (b || any (sameRow k) ks) → (T (any (sameRow k) ks) → List·Memᴰ k ks) → List·Memᴰ k (l ∷ ks)
-    go true e t rest = List·Memᴰ·head (row-true k l .0 e)
-    go false e t rest = List·Memᴰ·tail (rest t)
+among-yes k ks h = let s = some-of (sameRow k) ks h in Memᴰ·cast (row-yes k (s .found) (s .passes)) (s .listed)
 
 among-no : (k : List ℤ) (ks : List (List ℤ)) → List·Memᴰ k ks → T (any (sameRow k) ks)
-among-no k ks m = yes-or (any (sameRow k) ks) (λ e. row-false k k .0 (any-false (sameRow k) ks e k m) refl)
-  where
-    yes-or : (b : Bool) → (b ≡ false → ⊥) → T b
-    yes-or true h = tt
-    yes-or false h = h refl
+among-no k ks m = of-some (sameRow k) ks k m (row-refl k)
 
 pub decides-among : (k : List ℤ) (ks : List (List ℤ)) → T (any (sameRow k) ks) ↔ List·Memᴰ k ks
 decides-among k ks = (among-yes k ks, among-no k ks)
-
--- component by component: with equal first components the rest decides, with others the rows differ
-pub same-cons : (x y : ℤ) (s t : List ℤ) → x ≡ y → sameRow s t ≡ sameRow (x ∷ s) (y ∷ t)
-same-cons x y s t e = sym (ap (λ (b : Bool). b && sameRow s t) (decided-true (sameNumber x y) (decides-number x y) .1 e))
-
-pub differ-cons : (x y : ℤ) (s t : List ℤ) → x ≢ y → sameRow (x ∷ s) (y ∷ t) ≡ false
-differ-cons x y s t o = ap (λ (b : Bool). b && sameRow s t) (decided-false (sameNumber x y) (decides-number x y) .1 o)
 
 -- ---- equal records
 flag-yes : (a b : Bool) → T (sameFlag a b) → a ≡ b

@@ -20,7 +20,7 @@ use Rattle.rank1.specs.RuleTest.{admissible}
 use Rattle.rank1.specs.Search.{InRange}
 use Rattle.rank1.specs.Sums.{gathers}
 use Rattle.rank1.specs.Tally.{sameTally}
-use Rattle.rank1.specs.Refusal.{refuse, firstOf, within, outside, repeats, badPlan, badMapPlan, badAxes, badLength, badRow, otherTally, badTally, badComponent, equalRows, badModulus, badVector, badPlaces, inadmissible, ungatherable, listConditions, pairConditions}
+use Rattle.rank1.specs.Refusal.{refuse, firstOf, within, outside, repeats, badPlan, badMapPlan, badAxes, badLength, badWhole, badRow, otherTally, badTally, badComponent, badCorners, equalRows, badModulus, badVector, badPlaces, inadmissible, ungatherable, listConditions, pairConditions}
 use Rattle.rank1.specs.Valid.{Distinct, Nonnegative, ValidList, ValidModulus, ValidTally}
 use Rattle.rank1.proofs.Distinct.{member-at, Place, place-of}
 use Rattle.rank1.proofs.TestLaws.{false-fails, decided-true, decides-both, decides-eqb, decides-tally, either-false, neither, any-false, false-any, repeats-distinct, distinct-repeats}
@@ -58,7 +58,7 @@ clear-eqb a b = (eqb-false a b, ne-eqb a b)
 clear-unequal : (a b : ℕ) → (not (eqb a b) ≡ false) ↔ (a ≡ b)
 clear-unequal a b = clear-not (eqb a b) (decided-true (eqb a b) (decides-eqb a b))
 
-clear-beyond : (low high x : ℕ) → (not (within low high x) ≡ false) ↔ ((low ≤ x) × (x ≤ high))
+pub clear-beyond : (low high x : ℕ) → (not (within low high x) ≡ false) ↔ ((low ≤ x) × (x ≤ high))
 clear-beyond low high x =
     clear-not (within low high x)
     (decided-true (within low high x) (decides-both (leb low x) (leb x high) (leb→le low x, le→leb low x) (leb→le x high, le→leb x high)))
@@ -82,6 +82,9 @@ pub length-clear : (d : ℕ) (xs : List ℤ) → (badLength d xs ≡ 0) ↔ ((le
 length-clear d xs =
     clear 3 (not (eqb (length xs % d) 0) || ltb 512 (rowCount d xs)) (omega arith)
     (clear-or (not (eqb (length xs % d) 0)) (ltb 512 (rowCount d xs)) (clear-unequal (length xs % d) 0) (clear-ltb 512 (rowCount d xs)))
+
+pub whole-clear : (d : ℕ) (xs : List ℤ) → (badWhole d xs ≡ 0) ↔ (length xs % d ≡ 0)
+whole-clear d xs = clear 3 (not (eqb (length xs % d) 0)) (omega arith) (clear-unequal (length xs % d) 0)
 
 pub row-clear : (d : ℕ) (row : List ℤ) → (badRow d row ≡ 0) ↔ (length row ≡ d)
 row-clear d row = clear 3 (not (eqb (length row) d)) (omega arith) (clear-unequal (length row) d)
@@ -113,6 +116,11 @@ outside-clear plan x =
 
 pub component-clear : (plan : ℕ) (xs : List ℤ) → (badComponent plan xs ≡ 0) ↔ ((x : ℤ) → List·Memᴰ x xs → Ranged plan x)
 component-clear plan xs = clear 4 (any (outside plan) xs) (omega arith) (clear-any (outside plan) xs (outside-clear plan))
+
+pub corners-clear : (corners rows : ℕ) → (badCorners corners rows ≡ 0) ↔ (((1 ≤ corners) × (corners ≤ 32)) × (rows ≤ 512))
+corners-clear corners rows =
+    clear 13 (not (within 1 32 corners) || ltb 512 rows) (omega arith)
+    (clear-or (not (within 1 32 corners)) (ltb 512 rows) (clear-beyond 1 32 corners) (clear-ltb 512 rows))
 
 pub rows-clear : (d : ℕ) (xs : List ℤ) → (equalRows d xs ≡ 0) ↔ Distinct (indexList d xs)
 rows-clear d xs = clear 5 (repeats (indexList d xs)) (omega arith) (repeats-distinct (indexList d xs), distinct-repeats (indexList d xs))

@@ -17,6 +17,11 @@ rowCount d xs = length xs / d
 abbrev pub indexList : ℕ → List ℤ → List (List ℤ)
 indexList d xs = rowsOf d (rowCount d xs) xs
 
+-- the run of some rows, one after the other
+abbrev pub runOf : List (List ℤ) → List ℤ
+runOf [] = []
+runOf (k ∷ ks) = k ++ runOf ks
+
 -- the row of d zeros
 abbrev pub zeroRow : ℕ → List ℤ
 zeroRow d = replicate d (pos 0)

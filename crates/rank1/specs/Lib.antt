@@ -1,5 +1,6 @@
--- What a reader has to believe: the terms of document 01, a file for each of its sections, in its order, and of document 02 (Tally: b);
--- Tests has what they compute with. Valid, Axes and Differences are cited by private functions alone. The laws of these definitions stand in proofs/.
+-- What a reader has to believe: the terms of document 01, a file for each of its sections, in its order, and of document 02 (Tally: b,
+-- Corners: c); Tests has what they compute with. Valid is cited by private functions and by Corners, Axes and Differences by private
+-- functions alone. The laws of these definitions stand in proofs/.
 pub mod Tests
 pub mod Residue
 pub mod Index
@@ -11,5 +12,6 @@ pub mod Points
 pub mod Tally
 pub mod Refusal
 pub mod Valid
+pub mod Corners
 pub mod Axes
 pub mod Differences

@@ -53,6 +53,10 @@ badAxes d = refuse 2 (not (within 1 6 d))
 abbrev pub badLength : ℕ → List ℤ → ℕ
 badLength d xs = refuse 3 (not (eqb (length xs % d) 0) || ltb 512 (rowCount d xs))
 
+-- 3 (02, c): for corners only a length that is no multiple of d
+abbrev pub badWhole : ℕ → List ℤ → ℕ
+badWhole d xs = refuse 3 (not (eqb (length xs % d) 0))
+
 -- 3 (02, b): a row to add is not d numbers
 abbrev pub badRow : ℕ → List ℤ → ℕ
 badRow d row = refuse 3 (not (eqb (length row) d))
@@ -68,6 +72,10 @@ badTally t = refuse 3 (ltb 512 (t .m) || (ltb (64 * t .m) (t .size) || (t .zero 
 -- 4: a component outside its range
 abbrev pub badComponent : ℕ → List ℤ → ℕ
 badComponent plan xs = refuse 4 (any (outside plan) xs)
+
+-- 13 (02, c): no corners or more than 32, or their list has more than 512 rows
+abbrev pub badCorners : ℕ → ℕ → ℕ
+badCorners corners rows = refuse 13 (not (within 1 32 corners) || ltb 512 rows)
 
 -- 5: two equal rows
 abbrev pub equalRows : ℕ → List ℤ → ℕ
@@ -161,3 +169,17 @@ addRefusal plan d xs t row =
 -- the least modulus: 1 3
 unfoldable pub leastRefusal : ℕ → Tally → ℕ
 leastRefusal plan t = firstOf (badPlan plan ∷ badTally t ∷ [])
+
+-- ---- lists given by corners (02, c)
+-- corners: 2 3 4 (not negative, as for plans 2, 3 and 4)
+abbrev pub cornerConditions : ℕ → List ℤ → List ℕ
+cornerConditions d xs = badAxes d ∷ badWhole d xs ∷ badComponent 2 xs ∷ []
+
+-- the list of the corners, which has so many rows: those, 13 and 8
+unfoldable pub cornerRefusal : ℕ → List ℤ → ℕ → ℕ → ℕ
+cornerRefusal d xs rows places =
+    firstOf (cornerConditions d xs ++ (badCorners (rowCount d xs) rows ∷ badPlaces places (512 * d) ∷ []))
+
+-- whether a list is lower: 2 3 4 (any sign, as for plans 0 and 1) 5
+unfoldable pub lowerRefusal : ℕ → List ℤ → ℕ
+lowerRefusal d xs = firstOf (listConditions 1 d xs)

@@ -1,9 +1,16 @@
--- What the other definitions compute with: tests over lists, equal rows, counting, and the numbers below a bound.
+-- What the other definitions compute with: tests over lists, equal rows, counting, and the numbers below a bound. A test decides a property
+-- where it is true exactly where the property holds.
+use mathlib.Core.Path.{_≡_}
 use mathlib.Core.Bool.{Bool, true, false, cond, _&&_, _||_}
 use mathlib.Core.List.{List, [], _∷_}
 use Prim.Native.Nat.{ℕ, zero, suc, _+_}
 use lib.Dec.{eqb}
 use lib.IntN.{ℤ, pos, negsuc}
+
+-- b is true exactly where P holds
+pub record Decides (b : Bool) (P : Type 0) : Type 0 where
+  pub yes : b ≡ true → P
+  pub no : b ≡ false → P → ⊥
 
 module _ {A : Type 0} where
   -- every member passes

@@ -20,7 +20,6 @@ use mir.Facts.{toZ-ofZ}
 use Rattle.rank1.specs.Tests.{any, sameRow}
 use Rattle.rank1.specs.Index.{rowsOf}
 use Rattle.rank1.specs.Refusal.{refuse, firstOf, within, outside, repeats}
-use Rattle.rank1.proofs.TestLaws.{same-cons, differ-cons}
 use Rattle.rank1.proofs.RefusalLaws.{firstOf-append, firstOf-skip, firstOf-applies}
 
 -- ---- a condition's number, where the condition applies and where it does not
@@ -123,7 +122,7 @@ module _ {A : Type 0} (f : A → Bool) (w : A) (xs : List A) (i : ℕ) where
   pub any-none : length xs ≤ i → any f (drop i xs) ≡ false
   any-none h = ap (any f) (drop-of-length-le xs h)
 
--- ---- equal rows, from the front
+-- ---- a row, from the front
 -- two components with the same 16 bits
 pub bits-same : (x y : ℤ) → mag x < 2 ^ 15 → mag y < 2 ^ 15 → ofZ w16 x ≡ ofZ w16 y → x ≡ y
 bits-same x y p q e = sym (toZ-ofZ {w = w16} {z = x} (sfits-of p)) ∙ ap (toZ w16) e ∙ toZ-ofZ {w = w16} {z = y} (sfits-of q)
@@ -149,31 +148,37 @@ rest-none xs d a j l =
     let e : d - j ≡ 0 = omega arith in
     ap (λ (k : ℕ). take k (drop (a + j) xs)) e
 
--- a row and the one at a place agree from component j on
-abbrev pub sameFrom : List ℤ → List ℤ → ℕ → ℕ → Bool
-sameFrom row xs at j = sameRow (drop j row) (rowRest xs (length row) at j)
+-- ---- two rows held against each other, from the front: F is a test of two rows that goes by a test f of their components (`sameRow` is
+-- one, `under` another)
+module _ (f : ℤ → ℤ → Bool) (F : List ℤ → List ℤ → Bool) (end : F [] [] ≡ true) (turn : (x : ℤ) (s : List ℤ) (y : ℤ) (t : List ℤ) → F (x ∷ s) (y ∷ t) ≡ (f x y && F s t)) (row xs : List ℤ) (at : ℕ) where
+  -- the row against the one at a place of a run, both from component j on
+  abbrev pub pairRest : ℕ → Bool
+  pairRest j = F (drop j row) (rowRest xs (length row) at j)
 
--- nothing passed; nothing left
-pub same-all : (row xs : List ℤ) (at : ℕ) → sameFrom row xs at 0 ≡ sameRow row (take (length row) (drop at xs))
-same-all row xs at = ap (sameRow row) (rest-all xs (length row) at)
+  -- nothing passed; nothing left
+  pub pair-all : pairRest 0 ≡ F row (take (length row) (drop at xs))
+  pair-all = ap (F row) (rest-all xs (length row) at)
 
-pub same-none : (row xs : List ℤ) (at j : ℕ) → length row ≤ j → sameFrom row xs at j ≡ true
-same-none row xs at j l = ap₂ sameRow (drop-of-length-le row l) (rest-none xs (length row) at j l)
+  pub pair-none : (j : ℕ) → length row ≤ j → pairRest j ≡ true
+  pair-none j l = ap₂ F (drop-of-length-le row l) (rest-none xs (length row) at j l) ∙ end
 
--- component j, and the rest
-module _ (row xs : List ℤ) (at j : ℕ) (l : j < length row) (p : at + length row ≤ length xs) where
-  same-turn : sameFrom row xs at j ≡ sameRow (getD row j (pos 0) ∷ drop (j + 1) row) (getD xs (at + j) (pos 0) ∷ rowRest xs (length row) at (j + 1))
-  same-turn =
-      ap₂ sameRow (drop-cons row j (pos 0) l) (rest-turn xs (length row) at j l p)
-      ∙ sym (ap (λ (i : ℕ). sameRow (getD row j (pos 0) ∷ drop i row) (getD xs (at + j) (pos 0) ∷ rowRest xs (length row) at (j + 1))) (add-one j))
+  -- component j, and the rest
+  module _ (fits : at + length row ≤ length xs) (j : ℕ) (l : j < length row) where
+    abbrev component : Bool
+    component = f (getD row j (pos 0)) (getD xs (at + j) (pos 0))
 
-  -- component j differs
-  pub same-fails : (getD row j (pos 0) ≡ getD xs (at + j) (pos 0) → ⊥) → sameFrom row xs at j ≡ false
-  same-fails h = same-turn ∙ differ-cons (getD row j (pos 0)) (getD xs (at + j) (pos 0)) (drop (j + 1) row) (rowRest xs (length row) at (j + 1)) h
+    pair-turn : pairRest j ≡ (component && pairRest (j + 1))
+    pair-turn =
+        ap₂ F (drop-cons row j (pos 0) l ∙ ap (λ (k : ℕ). getD row j (pos 0) ∷ drop k row) (sym (add-one j))) (rest-turn xs (length row) at j l fits)
+        ∙ turn (getD row j (pos 0)) (drop (j + 1) row) (getD xs (at + j) (pos 0)) (rowRest xs (length row) at (j + 1))
 
-  -- component j is the same
-  pub same-more : getD row j (pos 0) ≡ getD xs (at + j) (pos 0) → sameFrom row xs at (j + 1) ≡ sameFrom row xs at j
-  same-more h = same-cons (getD row j (pos 0)) (getD xs (at + j) (pos 0)) (drop (j + 1) row) (rowRest xs (length row) at (j + 1)) h ∙ sym same-turn
+    -- component j fails
+    pub pair-fails : component ≡ false → pairRest j ≡ false
+    pair-fails e = pair-turn ∙ and-fails component (pairRest (j + 1)) e
+
+    -- component j passes
+    pub pair-more : component ≡ true → pairRest (j + 1) ≡ pairRest j
+    pair-more e = sym (pair-turn ∙ and-skip component (pairRest (j + 1)) e)
 
 -- ---- the rows of a run, from the front: of m rows i are passed, and the next one starts at a place
 abbrev pub rowsLeft : List ℤ → ℕ → ℕ → ℕ → ℕ → List (List ℤ)

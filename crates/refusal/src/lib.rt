@@ -1,4 +1,4 @@
-// Validation: the conditions 1 to 8 of document 01's refusal table, each written once. A refusal is a number, 0 for none.
+// Validation: the conditions 1 to 8 of document 01's refusal table and those of corners (document 02, c), each written once. A refusal is a number, 0 for none.
 
 ghost use mathlib.Core.Path.{_≡_};
 ghost use mathlib.Core.List.{List, [], _∷_, _++_};
@@ -7,8 +7,11 @@ ghost use lib.Dec.{leb};
 ghost use lib.IntN.{ℤ};
 ghost use lib.ListN.{length, take, drop};
 ghost use Rattle.rank1.specs.Tests.{any, sameRow};
-ghost use Rattle.rank1.specs.Index.{rowsOf};
-ghost use Rattle.rank1.specs.Refusal.{outside, repeats, firstOf, badPlan, badMapPlan, badAxes, badRow, badLength, badModulus, badVector, badPlaces, listConditions, pairConditions, longerConditions};
+ghost use Rattle.rank1.specs.Index.{rowsOf, indexList};
+ghost use Rattle.rank1.specs.Refusal.{outside, repeats, firstOf, badPlan, badMapPlan, badAxes, badRow, badLength, badModulus, badVector, badPlaces, listConditions, pairConditions, longerConditions, cornerConditions};
+
+// A plan under which no component may be negative.
+const COSINE: u8 = 2;
 
 // Condition 4 of one component: larger than 255 in size, or negative for plans 2, 3 and 4.
 fn out_of_range(plan: u8, x: i16) -> bool
@@ -64,6 +67,16 @@ fn stands_among(row: &[i16], rows: &[i16], start: usize, m: usize) -> bool
         at += row.len();
     }
     false
+}
+
+// Whether a row is one of the rows, as long as it, of a run. (One of no components is none.)
+pub fn stands(row: &[i16], rows: &[i16]) -> bool
+    ensures { λ r. ⌜ r ≡ any (sameRow (now (row .entry))) (indexList (length (now (row .entry))) (now (rows .entry))) ⌝ }
+{
+    if row.len() == 0 {
+        return false;
+    }
+    stands_among(row, rows, 0, rows.len() / row.len())
 }
 
 // Condition 5: two of the m rows are equal.
@@ -171,6 +184,20 @@ pub fn longer_refusal(plan: u8, d: usize, rows: &[i16], row: &[i16]) -> u8
         return 5;
     }
     0
+}
+
+// Conditions 2 to 4 of corners (document 02, c): 3 is only a length that is no multiple of d, and no component may be negative.
+pub fn corner_refusal(d: usize, corners: &[i16]) -> u8
+    ensures { λ r. ⌜ r ≡ firstOf (cornerConditions d (now (corners .entry))) ⌝ }
+{
+    let axes = axes_refusal(d);
+    if axes != 0 {
+        return axes;
+    }
+    if corners.len() % d != 0 {
+        return 3;
+    }
+    if some_outside(COSINE, corners) { 4 } else { 0 }
 }
 
 // Condition 6: n or N not 1 to 8192.

@@ -1,6 +1,6 @@
 //! A planner written from the words of documents 01 and 02 alone, to hold the library against. It shares nothing with the crates and
-//! knows no shortcut: every residue is a sum of products, every rule goes pair by pair, M is a set of rows, and a search tries every
-//! vector at every modulus.
+//! knows no shortcut: every residue is a sum of products, every rule goes pair by pair, M is a set of rows, the list of some corners
+//! is a set of rows too, and a search tries every vector at every modulus.
 //!
 //! A call answers with what it would write, or with the number of the refusal.
 
@@ -102,6 +102,46 @@ fn bound(plan: u8, (m, size, zero): Record) -> u32 {
     }
 }
 
+/// How many rows without negative components are nowhere larger than `corner`, which has no negative components either.
+fn box_size(corner: &[i64]) -> i64 {
+    corner.iter().map(|x| x + 1).product()
+}
+
+/// These rows: the numbers below the size of the box, written with a digit for each axis.
+fn box_rows(corner: &[i64]) -> impl Iterator<Item = Vec<i64>> + '_ {
+    (0..box_size(corner)).map(|number| {
+        let mut rest = number;
+        corner
+            .iter()
+            .map(|x| {
+                let digit = rest % (x + 1);
+                rest /= x + 1;
+                digit
+            })
+            .collect()
+    })
+}
+
+/// Every row from zero up to some corner, in dictionary order, which is the set's own; `None` where there are more than 512.
+fn rows_up_to(corners: &[Vec<i64>]) -> Option<BTreeSet<Vec<i64>>> {
+    let mut rows = BTreeSet::new();
+    for row in corners.iter().flat_map(|corner| box_rows(corner)) {
+        rows.insert(row);
+        if rows.len() > 512 {
+            return None;
+        }
+    }
+    Some(rows)
+}
+
+/// With a row, every row without negative components that is nowhere larger is in too. A list cannot hold a box of more rows than
+/// it has itself.
+fn lower(list: &[Vec<i64>]) -> bool {
+    let rows: BTreeSet<_> = list.iter().cloned().collect();
+    list.iter().flatten().all(|&x| x >= 0)
+        && list.iter().all(|k| box_size(k) <= list.len() as i64 && box_rows(k).all(|h| rows.contains(&h)))
+}
+
 // The refusal table: the number where the condition applies.
 
 fn refuse(number: u8, applies: bool) -> Result<(), u8> {
@@ -112,6 +152,11 @@ fn refuse(number: u8, applies: bool) -> Result<(), u8> {
     }
 }
 
+/// The rows of d numbers that stand one after the other.
+fn rows_of(d: usize, numbers: &[i16]) -> Vec<Vec<i64>> {
+    numbers.chunks(d).map(|k| k.iter().map(|&x| i64::from(x)).collect()).collect()
+}
+
 /// 1 to 5, and the list.
 fn the_list(plan: u8, zero_allowed: bool, d: usize, rows: &[i16]) -> Result<Vec<Vec<i64>>, u8> {
     refuse(1, plan > 4 || (plan == 0 && !zero_allowed))?;
@@ -119,7 +164,7 @@ fn the_list(plan: u8, zero_allowed: bool, d: usize, rows: &[i16]) -> Result<Vec<
     refuse(3, rows.chunks(d).any(|k| k.len() != d) || rows.len() / d > 512)?;
     let least = if plan >= 2 { 0 } else { -255 };
     refuse(4, rows.iter().any(|x| !(least..=255).contains(x)))?;
-    let list: Vec<Vec<i64>> = rows.chunks(d).map(|k| k.iter().map(|&x| i64::from(x)).collect()).collect();
+    let list = rows_of(d, rows);
     for (i, k) in list.iter().enumerate() {
         refuse(5, list[..i].contains(k))?;
     }
@@ -305,4 +350,20 @@ pub fn least_modulus(plan: u8, tally: Record) -> Result<u16, u8> {
     let (m, size, zero) = tally;
     refuse(3, m > 512 || u64::from(size) > 64 * u64::from(m) || (zero && m == 0))?;
     Ok(bound(plan, tally) as u16)
+}
+
+pub fn corner_list(d: usize, corners: &[i16], places: usize) -> Result<Vec<i16>, u8> {
+    refuse(2, !(1..=6).contains(&d))?;
+    refuse(3, corners.chunks(d).any(|c| c.len() != d))?;
+    refuse(4, corners.iter().any(|x| !(0..=255).contains(x)))?;
+    let corners = rows_of(d, corners);
+    refuse(13, !(1..=32).contains(&corners.len()))?;
+    let rows = rows_up_to(&corners).ok_or(13)?;
+    refuse(8, places != 512 * d)?;
+    Ok(rows.iter().flatten().map(|&x| x as i16).collect())
+}
+
+pub fn is_lower(d: usize, rows: &[i16]) -> Result<bool, u8> {
+    // 2 to 5, where a component may be negative as under plan 1
+    Ok(lower(&the_list(1, true, d, rows)?))
 }

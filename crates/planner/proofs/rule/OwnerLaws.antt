@@ -11,7 +11,8 @@ use borrow.Author.Tests.{eqb-true, eqb-false}
 use lib.Dec.{eqb}
 use lib.ListN.{length, getD, set}
 use lib.Seq.{getD-set-same, getD-set-other}
-use Rattle.planner.specs.Inner.{Decides, Owners, Clear, clash}
+use Rattle.rank1.specs.Tests.{Decides}
+use Rattle.planner.specs.Inner.{Owners, Clear, clash}
 
 -- an answer that is known decides
 pub decides-yes : {P : Type 0} → P → Decides true P

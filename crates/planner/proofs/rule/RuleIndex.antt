@@ -10,6 +10,7 @@ use native.Mathlib.Omega.{arith}
 use lib.IntN.{ℤ, pos}
 use lib.ListN.{length, getD, take, drop, List·getD-map}
 use lib.Seq.{getD-take}
+use Rattle.rank1.specs.Tests.{Decides}
 use Rattle.rank1.specs.Residue.{dot, residueAt}
 use Rattle.rank1.specs.Index.{zeroRow, mirrors, rowCount, indexList}
 use Rattle.rank1.specs.Rule.{Integrates, Reconstructs, PlanB, PlanC, Admissible}
@@ -20,7 +21,7 @@ use Rattle.rank1.proofs.Distinct.{member-at, place-of, distinct-at}
 use Rattle.rank1.proofs.Order.{compared}
 use Rattle.rank1.proofs.MirrorLaws.{mirror-self, mirrors-first, mirrors-distinct, same-row}
 use Rattle.rank1.proofs.IndexLaws.{row-at, rows-length, row-in}
-use Rattle.planner.specs.Inner.{Decides, Ready, Owners, Recorded, residueOf, clash}
+use Rattle.planner.specs.Inner.{Ready, Owners, Recorded, residueOf, clash}
 use Rattle.planner.proofs.rule.OwnerLaws.{Unowned, AllApart, decides-yes, decides-no, owners-clash, owners-apart, owner-free, owner-forbids}
 
 module _ {A : Type 0} (xs : List A) (x : A) where

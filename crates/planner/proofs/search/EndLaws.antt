@@ -1,6 +1,7 @@
 -- The rows that end by an axis: what the rule asks of them, and that where they fail no vector of whole numbers that begins so meets
 -- the rule. At the last axis they are the whole list.
 use mathlib.Core.Path.{_≡_, sym, ap, _∙_, subst}
+use mathlib.Core.Bool.{Bool}
 use mathlib.Core.List.{List, map, List·Memᴰ}
 use Prim.Native.Nat.{ℕ, _+_, _*_, _<_, _≤_}
 use native.Mathlib.Omega.{arith}
@@ -8,6 +9,7 @@ use lib.IntN.{ℤ, pos}
 use lib.ListN.{length, getD, take, List·getD-eq-default}
 use lib.Seq.{length-take-le, take-all}
 use Rattle.planner.specs.declared.search.Search.{Search}
+use Rattle.rank1.specs.Tests.{Decides}
 use Rattle.rank1.specs.Index.{indexList}
 use Rattle.rank1.specs.Rule.{Admissible}
 use Rattle.rank1.specs.Valid.{Nonnegative}
@@ -16,7 +18,7 @@ use Rattle.rank1.proofs.RuleLaws.{prune-whole}
 use Rattle.planner.specs.Sizes.{levelRoom}
 use Rattle.planner.specs.Inner.{Products, Ready}
 use Rattle.planner.specs.Levels.{levelRun, ending}
-use Rattle.planner.specs.Stage.{Listed, Prefixed, NoneFrom}
+use Rattle.planner.specs.Stage.{Listed, Prefixed, NoneFrom, EndsHold}
 use Rattle.planner.proofs.levels.LevelLaws.{LevelReady, level-ready, level-room, valid-long, zero-from, ending-out}
 
 module _ (s : Search) (at : ℕ) (rows levels : List ℤ) (sizes z products owners : List ℕ) (listed : Listed (s .plan) (s .d) (s .top) rows levels sizes) (prefix : Prefixed s at z products owners) where
@@ -52,16 +54,23 @@ module _ (s : Search) (at : ℕ) (rows levels : List ℤ) (sizes z products owne
     pub ends-unsigned : 2 ≤ s .plan → (k : List ℤ) → List·Memᴰ k (indexList (s .d) xs) → Nonnegative k
     ends-unsigned = level .unsigned
 
+    ends-are : indexList (s .d) xs ≡ ending at (indexList (s .d) rows)
+    ends-are = ap (indexList (s .d)) is ∙ listed .ends .level at (prefix .within) .rows
+
     -- where they fail, nothing that begins so meets the rule
-    pub ends-none : (Admissible (s .plan) (indexList (s .d) xs) (s .n) (map pos (take at z)) → ⊥) → NoneFrom (Admissible (s .plan) (indexList (s .d) rows)) (s .d) (s .n) at z
+    ends-none : (Admissible (s .plan) (ending at (indexList (s .d) rows)) (s .n) (map pos (take at z)) → ⊥) → NoneFrom (Admissible (s .plan) (indexList (s .d) rows)) (s .d) (s .n) at z
     unfolding NoneFrom
     ends-none fails y size begins =
-        prune-whole (s .plan) ks (ending at ks) (s .n) at y z (λ k m. ending-out at ks k m .0) (λ k m. zero-from at k (ending-out at ks k m .1)) begins
-        (subst (λ (rs : List (List ℤ)). Admissible (s .plan) rs (s .n) (map pos (take at z)) → ⊥)
-        (ap (indexList (s .d)) is ∙ listed .ends .level at (prefix .within) .rows) fails)
+        prune-whole (s .plan) ks (ending at ks) (s .n) at y z (λ k m. ending-out at ks k m .0) (λ k m. zero-from at k (ending-out at ks k m .1)) begins fails
       where
         ks : List (List ℤ)
         ks = indexList (s .d) rows
+
+    -- what deciding the rule on them says
+    pub ends-decided : (r : Bool) → Decides r (Admissible (s .plan) (indexList (s .d) xs) (s .n) (map pos (take at z))) → EndsHold s at rows z r
+    ends-decided r e =
+        let f = subst (λ (ks : List (List ℤ)). Decides r (Admissible (s .plan) ks (s .n) (map pos (take at z)))) ends-are e in
+        record { none = λ no. ends-none (f .no no); tested = λ unsieved. f .yes }
 
 -- ---- all components are fixed: the whole list
 module _ (s : Search) (rows levels : List ℤ) (sizes z products owners : List ℕ) (listed : Listed (s .plan) (s .d) (s .top) rows levels sizes) (prefix : Prefixed s (s .d) z products owners) where

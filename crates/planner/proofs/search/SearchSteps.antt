@@ -13,12 +13,13 @@ use lib.IntN.{pos}
 use lib.ListN.{length, getD, set, List·getD-map}
 use lib.Seq.{getD-set-same}
 use Rattle.planner.specs.declared.search.Search.{Search}
+use Rattle.rank1.specs.Tests.{Decides}
 use Rattle.rank1.specs.Rule.{Rule}
 use Rattle.rank1.specs.Search.{Before, FirstBelow}
 use Rattle.rank1.specs.Axes.{Agree}
 use Rattle.rank1.proofs.Order.{compared, before-irrefl}
 use Rattle.planner.specs.Sizes.{room, largestModulus}
-use Rattle.planner.specs.Inner.{KeptBelow, Decides}
+use Rattle.planner.specs.Inner.{KeptBelow}
 use Rattle.planner.specs.Stage.{ListTables, ModulusTables, Work, work, ruleOf, Fixed, Stage, KeptBefore, NoFirstFrom, Lowest, ValueEnd, Ruled, at-first, behind, Sifted, SumsTo, NextFree, Completed}
 use Rattle.planner.proofs.search.PrefixLaws.{agree-all, agree-more, agree-set, agree-begins, not-after}
 use Rattle.planner.proofs.search.ValueLaws.{low-passed, high-passed}

@@ -1,15 +1,15 @@
--- `search::ends_hold`: the rule on the rows that end there is decided, and where it fails nothing begins so (ends-none).
-use mathlib.Core.Path.{sym}
+-- `search::ends_hold`: the rule on the rows that end there is decided, and where it fails nothing begins so (ends-decided).
+use mathlib.Core.Path.{sym, _∙_}
 use mathlib.Core.Bool.{true≢false}
 use native.Mathlib.Omega.{arith}
 use lib.Seq.{length-take-le}
 use borrow.Author.Needs.{needs}
-use Rattle.planner.proofs.search.EndLaws.{ends-place, ends-room, ends-ready, ends-unsigned, ends-none}
+use Rattle.planner.proofs.search.EndLaws.{ends-place, ends-room, ends-ready, ends-unsigned, ends-decided}
 use Rattle.planner.proofs.search.ends_hold.Statement.{statement}
 use Rattle.planner.proofs.search.ends_hold.Tie as tie
 
 returns : tie.Need-returns
-returns c = λ e. absurd (true≢false e)
+returns c = record { none = λ e. absurd (true≢false e); tested = λ e. absurd (true≢false (sym (c .if1 .taken) ∙ e)) }
 
 level-at-requires : tie.Need-level-at-requires
 level-at-requires c κs =
@@ -39,7 +39,7 @@ returns-2 c =
     let b = c .before .before .before .before .before .before .before .before .before .before .before in
     let a = b .args in
     let level = c .before .before .before .before .before .level-at in
-    λ e. ends-none (a .s) (a .at) (a .rows .now) (a .levels .now) (a .sizes .now) (a .z .now) (a .products .now) (a .owners .now) (b .pre .0) (b .pre .1) (level .result .now) (level .ensures) (c .before .before .rule-holds .ensures .no e)
+    ends-decided (a .s) (a .at) (a .rows .now) (a .levels .now) (a .sizes .now) (a .z .now) (a .products .now) (a .owners .now) (b .pre .0) (b .pre .1) (level .result .now) (level .ensures) (c .before .before .rule-holds .result) (c .before .before .rule-holds .ensures)
 
 pub ends-hold-spec : {M : Type 1} → statement M
 ends-hold-spec =

@@ -49,6 +49,7 @@ returns c =
           lead-passed (Admissible (a .s .plan) (indexList (a .s .d) (a .rows .now))) (plan-scales (a .s .plan) (indexList (a .s .d) (a .rows .now))) (a .s) (a .at) (a .v)
           (set (a .z .now) (a .at) (a .v)) (b .pre .prefix .modulus .low) (b .pre .listed .list .some-axes)
           (c .before .cannot-lead .ensures (c .if1 .taken)) (getD-set-same (a .z .now) (a .at) (a .v) 0 (omega (arith, b .pre .prefix .size, b .pre .within)));
+      tested = λ unsieved e. absurd (false≢true e);
     }
 
 set-axis-requires : tie.Need-set-axis-requires
@@ -86,7 +87,8 @@ returns-2 c =
       prefix = λ _.
           prefixed-kept (a .s) (a .at + 1) z (axis .last .0) (a .owners .now) z (axis .last .0) (ends .last .1 .1 .1 .1 .1 .1 .1 .0) (b .pre .listed .covers .narrow) refl (λ i l. refl) refl
           (λ i l. refl) (ends .kept .1 .1 .1 .1 .1 .1 .1 .0) (next-prefix b (axis .last .0) (axis .ensures));
-      none = λ e. none-first (Admissible (a .s .plan) (indexList (a .s .d) (a .rows .now))) (a .s .d) (a .s .n) (a .s .values) (a .at + 1) z (ends .ensures e);
+      none = λ e. none-first (Admissible (a .s .plan) (indexList (a .s .d) (a .rows .now))) (a .s .d) (a .s .n) (a .s .values) (a .at + 1) z (ends .ensures .none e);
+      tested = ends .ensures .tested;
     }
 
 pub try-component-spec : {M : Type 1} → statement M

@@ -1,0 +1,3 @@
+-- Laws of lower lists, by steps.
+pub mod StepLaws
+pub mod LowerSteps
