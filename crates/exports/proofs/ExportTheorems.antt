@@ -27,9 +27,9 @@ use Rattle.planner.specs.declared.Verdict.{Verdict}
 use Rattle.planner.specs.declared.Plan.{Plan}
 use Rattle.planner.specs.declared.Plan.the-variants.{Found, Refused}
 use Rattle.planner.specs.Answer.{verdict, refusalNumber, RefusedOr, FirstOrNone, SmallestOrNone, VectorSearch, SmallestSearch}
-use Rattle.planner.proofs.SearchTheorems.{Same, search-vector-determined, search-smallest-determined, search-vector-keeps, search-smallest-keeps}
+use Rattle.planner.proofs.SearchTheorems.{search-vector-determined, search-smallest-determined, search-vector-keeps, search-smallest-keeps}
 use Rattle.exports.specs.declared.tally.PlannerTally.{PlannerTally}
-use Rattle.exports.specs.Numbers.{refusalIn, CheckTold, modulusOr, PlanTold, places, numbersOr, CountedTold, leastOrKept, LeastTold, countOr, RowsTold, lowerOr, LowerTold}
+use Rattle.exports.specs.Numbers.{Told, refusalIn, CheckTold, modulusOr, PlanTold, places, numbersOr, CountedTold, leastOrKept, LeastTold, countOr, RowsTold, lowerOr, LowerTold}
 
 -- ---- the check
 -- it returns the number of the condition that applies
@@ -81,20 +81,20 @@ module _ (plan d : ℕ) (xs : List ℤ) (n : ℕ) (before after : List ℕ) (p p
   smallest-kept = told-kept (SmallestSearch plan d xs n before after) before after p p′ r (search-smallest-keeps plan d xs n before after)
 
 -- ---- one outcome: the number, the content of z and that of the place
-told-determined : {Promise Promise′ : Plan → Type 0} (after after′ : List ℕ) (p p′ p″ r r′ : ℕ) → ((a a′ : Plan) → Promise a → Promise′ a′ → Same a a′ after after′) → PlanTold Promise p p′ r → PlanTold Promise′ p p″ r′ → (r ≡ r′) × (after ≡ after′) × (p′ ≡ p″)
-told-determined after after′ p p′ p″ r r′ one x y =
+told-determined : {A B : Type 0} (numberIn : A → ℕ) (placeOr : ℕ → A → ℕ) {Promise Promise′ : A → Type 0} (after after′ : B) (p p′ p″ r r′ : ℕ) → ((a a′ : A) → Promise a → Promise′ a′ → (a ≡ a′) × (after ≡ after′)) → Told numberIn placeOr Promise p p′ r → Told numberIn placeOr Promise′ p p″ r′ → (r ≡ r′) × (after ≡ after′) × (p′ ≡ p″)
+told-determined numberIn placeOr after after′ p p′ p″ r r′ one x y =
     let same = one (x .answer) (y .answer) (x .meets) (y .meets) in (
-      x .number ∙ ap refusalNumber (same .0) ∙ sym (y .number),
+      x .number ∙ ap numberIn (same .0) ∙ sym (y .number),
       same .1,
-      x .place ∙ ap (modulusOr p) (same .0) ∙ sym (y .place),
+      x .place ∙ ap (placeOr p) (same .0) ∙ sym (y .place),
     )
 
 module _ (plan d : ℕ) (xs : List ℤ) (n : ℕ) (before after after′ : List ℕ) (p p′ p″ r r′ : ℕ) where
   pub vector-told-determined : PlanTold (VectorSearch plan d xs n before after) p p′ r → PlanTold (VectorSearch plan d xs n before after′) p p″ r′ → (r ≡ r′) × (after ≡ after′) × (p′ ≡ p″)
-  vector-told-determined = told-determined after after′ p p′ p″ r r′ (search-vector-determined plan d xs n before after after′)
+  vector-told-determined = told-determined refusalNumber modulusOr after after′ p p′ p″ r r′ (search-vector-determined plan d xs n before after after′)
 
   pub smallest-told-determined : PlanTold (SmallestSearch plan d xs n before after) p p′ r → PlanTold (SmallestSearch plan d xs n before after′) p p″ r′ → (r ≡ r′) × (after ≡ after′) × (p′ ≡ p″)
-  smallest-told-determined = told-determined after after′ p p′ p″ r r′ (search-smallest-determined plan d xs n before after after′)
+  smallest-told-determined = told-determined refusalNumber modulusOr after after′ p p′ p″ r r′ (search-smallest-determined plan d xs n before after after′)
 
 -- ---- the running tally
 -- counting returns the number of the condition that applies, and the least modulus call does
@@ -179,11 +179,9 @@ lower-kept d xs p p′ r x some = go (x .answer) (x .place) (λ e. some (x .numb
 
 -- one outcome: the number, the run and the place
 pub rows-told-determined : (d : ℕ) (xs before after after′ : List ℤ) (p p′ p″ r r′ : ℕ) → RowsTold (CornerCall d xs before after) p p′ r → RowsTold (CornerCall d xs before after′) p p″ r′ → (r ≡ r′) × (after ≡ after′) × (p′ ≡ p″)
-rows-told-determined d xs before after after′ p p′ p″ r r′ x y =
-    let same = corner-determined d xs before after after′ (x .answer) (y .answer) (x .meets) (y .meets) in
-    (x .number ∙ ap rowsNumber (same .0) ∙ sym (y .number), same .1, x .place ∙ ap (countOr p) (same .0) ∙ sym (y .place))
+rows-told-determined d xs before after after′ p p′ p″ r r′ = told-determined rowsNumber countOr after after′ p p′ p″ r r′ (corner-determined d xs before after after′)
 
 pub lower-told-determined : (d : ℕ) (xs : List ℤ) (p p′ p″ r r′ : ℕ) → LowerTold (LowerCall d xs) p p′ r → LowerTold (LowerCall d xs) p p″ r′ → (r ≡ r′) × (p′ ≡ p″)
 lower-told-determined d xs p p′ p″ r r′ x y =
-    let same = lower-determined d xs (x .answer) (y .answer) (x .meets) (y .meets) in
-    (x .number ∙ ap lowerNumber same ∙ sym (y .number), x .place ∙ ap (lowerOr p) same ∙ sym (y .place))
+    let same = told-determined lowerNumber lowerOr xs xs p p′ p″ r r′ (λ a a′ m m′. (lower-determined d xs a a′ m m′, refl)) x y in
+    (same .0, same .2)

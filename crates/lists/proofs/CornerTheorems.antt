@@ -6,24 +6,23 @@ use mathlib.Core.Logic.{_↔_, _≢_, ⊎-elim}
 use mathlib.Core.Bool.{Bool, true, false, true≢false}
 use mathlib.Core.List.{List, [], _∷_, _++_, List·Memᴰ, List·Memᴰ·not-nil, List·Memᴰ·cases-cons}
 use Prim.Native.Nat.{ℕ, zero, suc, _*_, _%_, _≤_}
-use native.Mathlib.Nat.{div-mul-le-self, div-add-mod'}
+use native.Mathlib.Nat.{div-add-mod'}
 use native.Mathlib.Omega.{arith}
 use lib.Dec.{T}
 use lib.IntN.{ℤ, pos, negsuc}
-use lib.ListN.{length, take, drop, replicate}
+use lib.ListN.{length, take, drop, replicate, length-replicate}
 use lib.Seq.{take-at, drop-at}
 use Rattle.rank1.specs.Index.{rowCount, indexList, runOf}
 use Rattle.rank1.specs.Corners.{under, underSome, Lower, Maximal}
 use Rattle.rank1.specs.Valid.{Nonnegative}
 use Rattle.rank1.specs.Refusal.{firstOf, badAxes, badWhole, badComponent, badCorners, badPlaces, listConditions, cornerConditions, cornerRefusal, lowerRefusal}
-use Rattle.rank1.proofs.TestLaws.{some-of}
-use Rattle.rank1.proofs.IndexLaws.{member-length, component-in, rows-length}
+use Rattle.rank1.proofs.IndexLaws.{component-in, rows-length}
 use Rattle.rank1.proofs.RefusalLaws.{firstOf-none, firstOf-none-append, firstOf-skip}
 use Rattle.rank1.proofs.ValidLaws.{Ranged, axes-clear, whole-clear, component-clear, corners-clear, places-clear, list-axes, list-length, list-components}
 use Rattle.rank1.proofs.NoRows.{no-rows, no-rows-valid}
 use Rattle.rank1.proofs.CornerTrials.{no-rows-lower}
 use Rattle.rank1.proofs.RunLaws.{run-length, run-rows, run-passes, whole-out}
-use Rattle.rank1.proofs.UnderLaws.{under-turn, under-length, under-trans}
+use Rattle.rank1.proofs.UnderLaws.{under-turn, under-length}
 use Rattle.rank1.proofs.CornerLaws.{only-one, ascending-distinct}
 use Rattle.rank1.proofs.LowerLaws.{corners-lower, lower-members, same-rows, maximal-members, fewer}
 use Rattle.lists.specs.declared.RowCount.{RowCount}
@@ -33,6 +32,7 @@ use Rattle.lists.specs.declared.Lowness.the-variants as lowness
 use Rattle.lists.specs.Answer.{rowsOr, rowsNumber, frontOr, CornerCall, LowerCall}
 use Rattle.lists.specs.Inner.{ValidCorners}
 use Rattle.lists.proofs.CornerCalls.{valid-corners}
+use Rattle.lists.proofs.corners.NextLaws.{some-small}
 
 -- ---- one outcome
 pub corner-determined : (d : ℕ) (xs before after after′ : List ℤ) (answer answer′ : RowCount) → CornerCall d xs before after answer → CornerCall d xs before after′ answer′ → (answer ≡ answer′) × (after ≡ after′)
@@ -123,14 +123,10 @@ module _ (d : ℕ) (xs before after : List ℤ) (answer : RowCount) (call : Corn
 
     -- a row of the list is up to a corner, and so up to 255 on every axis
     row-small : (k : List ℤ) → List·Memᴰ k ks → T (under k (replicate d (pos 255)))
-    row-small k m =
-        let s = some-of (under k) (indexList d xs) (call .is .members k .0 m) in
-        under-trans k (s .found) (replicate d (pos 255)) (s .passes) (valid .small (s .found) (s .listed))
+    row-small k m = some-small (indexList d xs) d (valid .small) k (call .is .members k .0 m)
 
     row-long : (k : List ℤ) → List·Memᴰ k ks → length k ≡ d
-    row-long k m =
-        let s = some-of (under k) (indexList d xs) (call .is .members k .0 m) in
-        under-length k (s .found) (s .passes) ∙ member-length d (rowCount d xs) xs (s .found) (div-mul-le-self (length xs) d) (s .listed)
+    row-long k m = under-length k (replicate d (pos 255)) (row-small k m) ∙ length-replicate d (pos 255)
 
     given-of : (m : ℕ) → m ≡ length ks → after ≡ runOf ks ++ drop (length (runOf ks)) before → Given d before after m ks
     given-of m e written = record {

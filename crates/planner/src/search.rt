@@ -5,7 +5,7 @@
 // | prune | test | law |
 // |---|---|---|
 // | counting: the tally's bound | moduli::start_of | bound-hopeless (all-counted, rest-run) |
-// | rows that end early break the rule | ends_hold | prune-whole (ends-none) |
+// | rows that end early break the rule | ends_hold | prune-whole (ends-decided) |
 // | scaling: a first component is 0 or divides n | cannot_lead | first-component (lead-passed) |
 // | interchangeable axes: components rise | lowest, marks of axes.rt | swap-first (low-passed) |
 // | sign changes: no component above n / 2 | value_end, marks of flips.rt | flip-first, differences-flip (high-passed) |

@@ -229,8 +229,11 @@ module _ (xs : List ℤ) (d at : ℕ) where
   pub part-row : take (at + d - at) (drop at xs) ≡ take d (drop at xs)
   part-row = ap (λ (k : ℕ). take k (drop at xs)) (add-sub-cancel-left at d)
 
+  pub row-long : at + d ≤ length xs → length (take d (drop at xs)) ≡ d
+  row-long h = length-take-le d (drop at xs) (omega (arith, length-drop at xs))
+
   pub part-long : at + d ≤ length xs → length (take (at + d - at) (drop at xs)) ≡ d
-  part-long h = ap length part-row ∙ length-take-le d (drop at xs) (omega (arith, length-drop at xs))
+  part-long h = ap length part-row ∙ row-long h
 
 -- two rows that are left are equal: the next one stands again after it, or two after it are
 module _ (xs : List ℤ) (d m at i : ℕ) (l : i < m) (h : at + d ≤ length xs) where

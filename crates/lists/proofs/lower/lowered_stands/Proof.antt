@@ -5,14 +5,15 @@ use Prim.Native.Nat.{ℕ, _+_, _-_}
 use native.Mathlib.Omega.{arith}
 use borrow.Author.Needs.{sfits-of}
 use lib.IntN.{ℤ, pos}
-use lib.ListN.{length, getD, take, drop, set, replicate, length-set, length-drop}
-use lib.Seq.{length-take-le, take-at, take-set-lt}
+use lib.ListN.{length, getD, take, drop, set, replicate, length-set}
+use lib.Seq.{take-at, take-set-lt}
 use mir.Syntax.{w16}
 use mir.Val.{SFits, toZ, ofZ}
 use mir.Facts.{toZ-ofZ}
 use Rattle.rank1.specs.Tests.{any, sameRow}
 use Rattle.rank1.specs.Index.{indexList}
 use Rattle.lists.specs.Inner.{down}
+use Rattle.refusal.proofs.InputLaws.{part-row, row-long}
 use borrow.Author.Needs.{needs}
 use Rattle.lists.proofs.lower.lowered_stands.Statement.{statement}
 use Rattle.lists.proofs.lower.lowered_stands.Tie as tie
@@ -22,12 +23,10 @@ abbrev row-of : tie.Start → List ℤ
 row-of s = take (s .args .d) (drop (s .args .at) (s .args .rows .now))
 
 size : (s : tie.Start) → length (row-of s) ≡ s .args .d
-size s = length-take-le (s .args .d) (drop (s .args .at) (s .args .rows .now)) (omega (arith, length-drop (s .args .at) (s .args .rows .now), s .pre .0 .fits))
+size s = row-long (s .args .rows .now) (s .args .d) (s .args .at) (s .pre .0 .fits)
 
 part : (s : tie.Start) → take ((s .args .at + s .args .d) - s .args .at) (drop (s .args .at) (s .args .rows .now)) ≡ row-of s
-part s =
-    let e : (s .args .at + s .args .d) - s .args .at ≡ s .args .d = omega arith in
-    ap (λ (n : ℕ). take n (drop (s .args .at) (s .args .rows .now))) e
+part s = part-row (s .args .rows .now) (s .args .d) (s .args .at)
 
 add-copy : tie.Need-add-copy
 add-copy c = search needs

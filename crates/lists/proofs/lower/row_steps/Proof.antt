@@ -6,11 +6,12 @@ use native.Mathlib.Omega.{arith}
 use borrow.Author.Count.{below-more}
 use borrow.Author.Tests.{not-true, not-false}
 use lib.IntN.{pos}
-use lib.ListN.{length, getD, take, drop, length-drop}
-use lib.Seq.{length-take-le, getD-take, getD-drop}
+use lib.ListN.{length, getD, take, drop}
+use lib.Seq.{getD-take, getD-drop}
 use Rattle.rank1.specs.Index.{indexList}
 use Rattle.rank1.proofs.TestLaws.{false-fails}
 use Rattle.lists.specs.Inner.{steps}
+use Rattle.refusal.proofs.InputLaws.{row-long}
 use borrow.Author.Needs.{needs}
 use Rattle.lists.proofs.lower.row_steps.Statement.{statement}
 use Rattle.lists.proofs.lower.row_steps.Tie as tie
@@ -30,7 +31,7 @@ component-steps-requires c κs = (c .before .before .pre, c .loop-test .taken)
 
 -- the row has d components
 size : (s : tie.Start Inv-loop μ-loop) → length (take (s .args .d) (drop (s .args .at) (s .args .rows .now))) ≡ s .args .d
-size s = length-take-le (s .args .d) (drop (s .args .at) (s .args .rows .now)) (omega (arith, length-drop (s .args .at) (s .args .rows .now), s .pre .fits))
+size s = row-long (s .args .rows .now) (s .args .d) (s .args .at) (s .pre .fits)
 
 -- what the call says of component j
 told : (c : tie.After-component-steps Inv-loop μ-loop) → c .component-steps .result ≡ steps (indexList (c .before .before .before .args .d) (c .before .before .before .args .rows .now)) (take (c .before .before .before .args .d) (drop (c .before .before .before .args .at) (c .before .before .before .args .rows .now))) (c .before .before .loop .j) (getD (take (c .before .before .before .args .d) (drop (c .before .before .before .args .at) (c .before .before .before .args .rows .now))) (c .before .before .loop .j) (pos 0))
