@@ -88,10 +88,12 @@ uint8_t planner_gather(uint8_t plan, size_t d, const int16_t *rows, size_t rows_
                        const int64_t *sums, size_t sums_len, int32_t *terms, size_t terms_len);
 
 /*
- * The cutting list: n lines of d numbers. Line i holds for axis j the residue of i * z[j]; for plans 2, 3 and 4 the tent numerator of
- * that residue r, the smaller of 2 r and 2 n - 2 r. It takes no list, and z need not be admissible.
- * Refusals: 1 2 6 7, 8 where out_len is not n * d.
- * Writes, where it returns 0: out, n * d numbers.
+ * The cutting list: a line of d numbers for each lens. Line i holds for axis j the residue of i * z[j]; for plans 2, 3 and 4 the tent
+ * numerator of that residue r, the smaller of 2 r and 2 n - 2 r. It takes no list, and z need not be admissible.
+ * Lenses: for plans 0 and 1 there are n, lines 0 to n - 1; for plans 2, 3 and 4 there are n / 2 + 1 (n / 2 rounded down), lines 0 to
+ * n / 2. There line n - i would equal line i, so line i above n / 2 is not listed: it is line n - i. Kept lines may still be equal.
+ * Refusals: 1 2 6 7, 8 where out_len is not the number of lenses * d.
+ * Writes, where it returns 0: out, the number of lenses * d numbers.
  */
 uint8_t planner_point_list(uint8_t plan, size_t d, uint16_t n, const uint16_t *z, size_t z_len, uint16_t *out, size_t out_len);
 

@@ -147,15 +147,15 @@ def gather(plan, rows, n, z, sums):
     return terms
 
 
+def line(plan, n, z, i):
+    """Line i of the cutting list, listed or not: residues of i times z_j, or tent numerators for plans 2, 3 and 4."""
+    residues = [i * component % n for component in z]
+    return residues if plan < 2 else [min(2 * r, 2 * n - 2 * r) for r in residues]
+
+
 def points(plan, n, z):
-    """The cutting list: n lines of d numbers; residues of i times z_j, or tent numerators for plans 2, 3 and 4."""
-    lines = []
-    for i in range(n):
-        line = [i * component % n for component in z]
-        if plan >= 2:
-            line = [min(2 * r, 2 * n - 2 * r) for r in line]
-        lines.append(line)
-    return lines
+    """The cutting list: n lines; for plans 2, 3 and 4 those up to half of n, since the others are twins of these."""
+    return [line(plan, n, z, i) for i in range(n) if plan < 2 or 2 * i <= n]
 
 
 # The ticket program

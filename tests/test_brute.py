@@ -4,6 +4,7 @@ a; and to the smallest moduli that document 000 gives in (4.9) and (4.12).
     python3 tests/test_brute.py      prints 'brute: N checks passed'
 """
 
+import itertools
 import sys
 
 sys.dont_write_bytecode = True
@@ -57,8 +58,16 @@ check(refusal(brute.smallest, 0, 1, ((6,),), 3), 9)
 check(brute.spread(4, three, 4, (1,), (5, -3, 2)), [5, -3, 4, -3])
 check(brute.gather(4, three, 4, (1,), [5, -3, 4, -3]), [5, -3, 2])
 check(brute.points(1, 5, (1, 2))[3], [3, 1])
-check(brute.points(2, 5, (1, 2))[3], [4, 2])
-check(len(brute.points(2, 5, (1, 2))), 5)
+check(brute.points(2, 5, (1, 2)), [[0, 0], [2, 4], [4, 2]])
+for plan, count in ((0, 6), (1, 6), (2, 4), (3, 4), (4, 4)):
+    check(len(brute.points(plan, 6, (1, 2))), count)
+    check(len(brute.points(plan, 1, (0,))), 1)
+# twins: under plans 2, 3 and 4 every line that is not listed is line n - i of the list
+for plan in 2, 3, 4:
+    for n in range(1, 20):
+        for z in itertools.product(range(n), repeat=2):
+            listed = brute.points(plan, n, z)
+            check([brute.line(plan, n, z, i) for i in range(len(listed), n)], [listed[n - i] for i in range(len(listed), n)])
 
 # The printed example, whole, and the other tickets as text
 check(brute.answer(b"4 1 3 10\n0\n1\n2\n"), b"4 1\n0 1\n1 1\n2 2\n")

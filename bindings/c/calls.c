@@ -258,9 +258,15 @@ int main(void)
     expect("planner_gather",
            planner_gather(4, 1, rows, 3, 4, one, 1, spread, 4, gathered, 3) == 0 && memcmp(gathered, terms, sizeof terms) == 0);
 
-    const uint16_t lines[10] = {0, 0, 2, 4, 4, 2, 4, 2, 2, 4};
+    /* five lenses under plan 1; under plan A three, and then ten places are too many */
+    const uint16_t residues[10] = {0, 0, 1, 2, 2, 4, 3, 1, 4, 3};
+    const uint16_t tents[6] = {0, 0, 2, 4, 4, 2};
     uint16_t points[10];
-    expect("planner_point_list", planner_point_list(2, 2, 5, two, 2, points, 10) == 0 && memcmp(points, lines, sizeof lines) == 0);
+    expect("planner_point_list",
+           planner_point_list(1, 2, 5, two, 2, points, 10) == 0 && memcmp(points, residues, sizeof residues) == 0);
+    expect("planner_point_list",
+           planner_point_list(2, 2, 5, two, 2, points, 10) == 8 && memcmp(points, residues, sizeof residues) == 0);
+    expect("planner_point_list", planner_point_list(2, 2, 5, two, 2, points, 6) == 0 && memcmp(points, tents, sizeof tents) == 0);
 
     uint16_t n = 0;
     uint16_t z[1] = {9};

@@ -2,14 +2,14 @@
  * Document 01's printed example through the header: cosine plan C, rows 0, 1, 2, ceiling 10. It prints the plan and the map as the
  * program `plan` does, then a request that is refused: plan 0, row 6, ceiling 3. Next it types the rows one after the other, and
  * prints after each the record and the least modulus worth trying under cosine plan A; a row that is in already is refused. Then
- * come the rows of a list given by two corners, and its smallest plan under cosine plan A.
+ * come the rows of a list given by two corners, its smallest plan under cosine plan A, and the lenses to cut for it.
  */
 #include <inttypes.h>
 #include <stdio.h>
 
 #include "planner.h"
 
-enum { AXES = 1, ROWS = 3 };
+enum { AXES = 1, ROWS = 3, CEILING = 100 };
 
 /* The rows typed one after the other under plan A: after each its list's record, and the least modulus worth trying. */
 static int type_rows(const int16_t *rows)
@@ -37,7 +37,24 @@ static int type_rows(const int16_t *rows)
     return tally.m == before.m && tally.size == before.size && tally.zero == before.zero ? 0 : 1;
 }
 
-/* The list of the corners (2, 0) and (0, 1): its rows, and its smallest plan under plan A with a modulus up to 100. */
+/* The lenses of a plan under plan A over two axes: under the tent line n - i equals line i, so there are n / 2 + 1. */
+static int list_points(uint16_t n, const uint16_t *z)
+{
+    uint16_t points[(CEILING / 2 + 1) * 2];
+    size_t lenses = n / 2 + 1;
+
+    uint8_t refused = planner_point_list(2, 2, n, z, 2, points, lenses * 2);
+    if (refused != 0) {
+        printf("refused %" PRIu8 "\n", refused);
+        return 1;
+    }
+    for (size_t i = 0; i < lenses; i++) {
+        printf("lens %zu: %" PRIu16 "/%" PRIu16 " %" PRIu16 "/%" PRIu16 "\n", i, points[2 * i], n, points[2 * i + 1], n);
+    }
+    return 0;
+}
+
+/* The list of the corners (2, 0) and (0, 1): its rows, its smallest plan under plan A, and the lenses of that plan. */
 static int plan_corners(void)
 {
     const int16_t corners[2 * 2] = {2, 0, 0, 1};
@@ -48,7 +65,7 @@ static int plan_corners(void)
 
     uint8_t refused = planner_corner_list(2, corners, 2 * 2, rows, 512 * 2, &count);
     if (refused == 0) {
-        refused = planner_search_smallest(2, 2, rows, count * 2, 100, z, 2, &n);
+        refused = planner_search_smallest(2, 2, rows, count * 2, CEILING, z, 2, &n);
     }
     if (refused != 0) {
         printf("refused %" PRIu8 "\n", refused);
@@ -58,7 +75,7 @@ static int plan_corners(void)
         printf("(%" PRId16 ", %" PRId16 ")\n", rows[2 * i], rows[2 * i + 1]);
     }
     printf("%" PRIu16 " %" PRIu16 " %" PRIu16 "\n", n, z[0], z[1]);
-    return 0;
+    return list_points(n, z);
 }
 
 int main(void)

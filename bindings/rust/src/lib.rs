@@ -232,22 +232,37 @@ pub fn gather_into(
     })
 }
 
-/// The cutting list: n lines of d numbers, one after the other. Line i has for each axis the residue of i times the component of z;
-/// for the cosine rules the tent numerator of that residue r, the smaller of 2r and 2n - 2r. Refusals: 1, 2, 6 and 7.
+/// How many lines the cutting list has, which is the number of lenses: n; for the cosine rules n / 2 + 1 (n / 2 rounded down), lines
+/// 0 to n / 2. With these rules line n - i would equal line i, so every line i above n / 2 is line n - i of the list.
+///
+/// ```
+/// use planner::{line_count, Rule};
+/// assert_eq!((line_count(Rule::Fourier, 5), line_count(Rule::Fourier, 6)), (5, 6));
+/// assert_eq!((line_count(Rule::CosineA, 5), line_count(Rule::CosineA, 6)), (3, 4));
+/// ```
+pub fn line_count(rule: Rule, n: u16) -> usize {
+    match rule {
+        Rule::ExactIntegration | Rule::Fourier => usize::from(n),
+        Rule::CosineA | Rule::CosineB | Rule::CosineC => usize::from(n) / 2 + 1,
+    }
+}
+
+/// The cutting list: [`line_count`] lines of d numbers, one after the other. Line i has for each axis the residue of i times the
+/// component of z; for the cosine rules the tent numerator of that residue r, the smaller of 2r and 2n - 2r. Refusals: 1, 2, 6 and 7.
 ///
 /// ```
 /// use planner::{point_list, Rule};
-/// assert_eq!(point_list(Rule::Fourier, 2, 5, &[1, 2])?[6..8], [3, 1]);
-/// assert_eq!(point_list(Rule::CosineA, 2, 5, &[1, 2])?[6..8], [4, 2]);
+/// assert_eq!(point_list(Rule::Fourier, 2, 5, &[1, 2])?, [0, 0, 1, 2, 2, 4, 3, 1, 4, 3]);
+/// assert_eq!(point_list(Rule::CosineA, 2, 5, &[1, 2])?, [0, 0, 2, 4, 4, 2]);
 /// # Ok::<(), planner::Refusal>(())
 /// ```
 pub fn point_list(rule: Rule, d: usize, n: u16, z: &[u16]) -> Result<Vec<u16>, Refusal> {
-    let mut out = vec![0; usize::from(n) * d.min(MOST_AXES)];
+    let mut out = vec![0; line_count(rule, n) * d.min(MOST_AXES)];
     point_list_into(rule, d, n, z, &mut out)?;
     Ok(out)
 }
 
-/// The cutting list, to n * d lent places. Refusals: 1, 2, 6, 7 and 8.
+/// The cutting list, to [`line_count`] * d lent places. Refusals: 1, 2, 6, 7 and 8.
 pub fn point_list_into(rule: Rule, d: usize, n: u16, z: &[u16], out: &mut [u16]) -> Result<(), Refusal> {
     // SAFETY: the pointers and lengths are those of slices, and `out` is lent to us alone.
     Refusal::told(unsafe {

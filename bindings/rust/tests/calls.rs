@@ -210,6 +210,12 @@ fn compare_gather(c: &Case, sums: &[i64], places: usize) -> Result<Vec<i32>, u8>
     expected
 }
 
+/// As many places as the cutting list asks for.
+fn point_places(c: &Case) -> usize {
+    let n = i64::from(c.n);
+    (0..n).filter(|&i| independent::listed(c.plan, n, i)).count() * c.axes()
+}
+
 fn compare_points(c: &Case, places: usize) -> Result<Vec<u16>, u8> {
     let told = (c.plan, c.d, c.n, &c.z, places);
     let expected = independent::point_list(c.plan, c.d, c.n, &c.z, places);
@@ -224,7 +230,7 @@ fn compare_points(c: &Case, places: usize) -> Result<Vec<u16>, u8> {
         },
         |rule, out| planner::point_list_into(rule, c.d, c.n, &c.z, out),
     );
-    if places == usize::from(c.n) * c.axes() {
+    if places == point_places(c) {
         let answer = safely(c.plan, |rule| planner::point_list(rule, c.d, c.n, &c.z));
         assert_eq!(answer, expected, "{told:?}");
     }
@@ -419,7 +425,7 @@ fn compare_all(c: &Case, random: &mut Random, seen: &mut [Seen; 5]) {
         sums[at] = random.sum();
         seen[3].add(&compare_gather(c, &sums, terms.len()));
     }
-    seen[4].add(&compare_points(c, usize::from(c.n) * c.axes()));
+    seen[4].add(&compare_points(c, point_places(c)));
 }
 
 /// A component from -bound to bound, from 0 for plans 2 to 4.
@@ -663,7 +669,7 @@ fn wrong_lengths() {
             4 => 2 * right,
             _ => right,
         };
-        let (map, terms, sums, points) = (other(2 * m), other(m), other(n), other(n * c.axes()));
+        let (map, terms, sums, points) = (other(2 * m), other(m), other(n), other(point_places(&c)));
         let given = random.terms(terms);
         seen.add(&compare_map(&c, map));
         seen.add(&compare_spread(&c, &given, sums));
@@ -741,9 +747,33 @@ fn cutting_lists() {
             .map(|x| if turn % 8 > 0 { x.min(n.max(1) - 1) } else { x })
             .collect();
         let c = Case { plan, d, rows: vec![], n, z };
-        seen.add(&compare_points(&c, usize::from(n) * d));
+        seen.add(&compare_points(&c, point_places(&c)));
     }
     seen.all_of(&[0, 1, 2, 6, 7], 5);
+}
+
+/// Of all numbers of places one is taken, and it is that of `line_count`. All n lines are then there: under plans 2, 3 and 4 a line
+/// that is not listed is line n - i of the list.
+#[test]
+fn twin_lines() {
+    let mut random = Random::new(20);
+    for n in 1..=33u16 {
+        for plan in 0..=4 {
+            let d = 1 + random.below(3);
+            let z: Vec<_> = (0..d).map(|_| random.below(usize::from(n)) as u16).collect();
+            let c = Case { plan, d, rows: vec![], n, z };
+            let answers = (0..=(usize::from(n) + 2) * d).filter_map(|places| compare_points(&c, places).ok());
+            let lists: Vec<_> = answers.collect();
+            assert_eq!(lists.len(), 1, "{c:?}");
+            let lines: Vec<_> = lists[0].chunks(d).collect();
+            assert_eq!(safely(plan, |rule| Ok(planner::line_count(rule, n))), Ok(lines.len()), "{c:?}");
+            let z: Vec<_> = c.z.iter().map(|&x| i64::from(x)).collect();
+            for i in 0..usize::from(n) {
+                let at = if i < lines.len() { i } else { usize::from(n) - i };
+                assert_eq!(lines[at], independent::line(plan, i64::from(n), &z, i as i64), "{c:?} {i}");
+            }
+        }
+    }
 }
 
 /// The searches against every modulus and every vector in order, on small lists.
@@ -1656,7 +1686,9 @@ fn documented() {
     assert_eq!(compare_search(Search::Vector, &six(7), 1), Ok((7, vec![1])));
     assert_eq!(compare_spread(&Case::new(4, 1, &rows, 4, &[1]), &[5, -3, 2], 4), Ok(vec![5, -3, 4, -3]));
     assert_eq!(compare_points(&Case::new(1, 2, &[], 5, &[1, 2]), 10).unwrap()[6..8], [3, 1]);
-    assert_eq!(compare_points(&Case::new(2, 2, &[], 5, &[1, 2]), 10).unwrap()[6..8], [4, 2]);
+    // what document 01 prints for line 3 under plan A is read at line 2 (document 02, d)
+    assert_eq!(compare_points(&Case::new(2, 2, &[], 5, &[1, 2]), 6).unwrap()[4..6], [4, 2]);
+    assert_eq!(compare_points(&Case::new(2, 2, &[], 5, &[1, 2]), 10), Err(8));
 
     assert_eq!(compare_check(&Case::new(5, 1, &rows, 4, &[1])), Err(1));
     assert_eq!(compare_check(&Case::new(1, 0, &rows, 4, &[1])), Err(2));

@@ -1,21 +1,20 @@
 -- Theorems of the calls but the searches, over what the calls promise (specs/Answer.antt). Beside each stands the sentence of
--- document 00 or 01 that it meets.
+-- document 00, 01 or 02 that it meets.
 use mathlib.Core.Path.{_≡_, refl, sym, _∙_, ap}
 use mathlib.Core.Logic.{_↔_, _≢_}
-use mathlib.Core.Bool.{Bool, true, cond}
+use mathlib.Core.Bool.{true}
 use mathlib.Core.List.{List, [], map, List·Memᴰ}
-use Prim.Native.Nat.{ℕ, _+_, _*_, _-_, _%_, _<_, _≤_, min}
+use Prim.Native.Nat.{ℕ, _+_, _*_, _-_, _%_, _<_, _≤_}
 use native.Mathlib.Omega.{arith}
-use borrow.Author.Tests.{le-leb, lt-leb}
 use lib.IntN.{ℤ, pos}
 use lib.ListN.{length, getD}
-use Rattle.rank1.specs.Tests.{every}
+use Rattle.rank1.specs.Tests.{every, upTo}
 use Rattle.rank1.specs.Residue.{residueAt}
 use Rattle.rank1.specs.Index.{rowCount, indexList}
 use Rattle.rank1.specs.Rule.{Admissible}
 use Rattle.rank1.specs.RuleTest.{admissible}
 use Rattle.rank1.specs.Sums.{in32, copies, residueMap, sumAt, spreadSums, gatheredTerms, gathers}
-use Rattle.rank1.specs.Points.{tent, coordinate, lineCount, pointList}
+use Rattle.rank1.specs.Points.{coordinate, lineCount, pointLines, pointList}
 use Rattle.rank1.specs.Refusal.{checkRefusal, mapRefusal, spreadRefusal, gatherRefusal, pointRefusal}
 use Rattle.rank1.proofs.UpTo.{length-map-upTo}
 use Rattle.rank1.proofs.IndexLaws.{rows-length}
@@ -24,6 +23,7 @@ use Rattle.rank1.proofs.RuleTestLaws.{rule-true, rule-false}
 use Rattle.rank1.proofs.WholeSums.{total, in32-mag}
 use Rattle.rank1.proofs.SumLaws.{weighted, map-residue, map-copies, spread-total}
 use Rattle.rank1.proofs.GatherLaws.{gather-spread, gather-passes, reads-terms}
+use Rattle.rank1.proofs.PointLaws.{lines-whole, coordinate-twin, omitting, omitted}
 use Rattle.planner.specs.declared.Verdict.{Verdict}
 use Rattle.planner.specs.declared.Verdict.the-variants as answer
 use Rattle.planner.specs.Answer.{checkAnswer, written, Answered, ResidueMapCall, SpreadCall, GatherCall, PointListCall}
@@ -153,16 +153,7 @@ module _ (plan d : ℕ) (xs : List ℤ) (n : ℕ) (z : List ℕ) where
       )
 
 -- ---- point list
--- what stands for a residue: "the residue r of i × z_j" for plans 0 and 1
-pub coordinate-residue : (plan n r : ℕ) → plan ≤ 1 → coordinate plan n r ≡ r
-coordinate-residue plan n r l = ap (λ (t : Bool). cond t (tent n r) r) (lt-leb 2 plan (omega arith))
-
--- "For plans 2, 3 and 4 it holds the tent numerator instead: the smaller of 2r and 2n - 2r" (document 01, "Cutting list")
-pub coordinate-tent : (plan n r : ℕ) → 2 ≤ plan → coordinate plan n r ≡ min (2 * r) (2 * n - 2 * r)
-coordinate-tent plan n r l = ap (λ (t : Bool). cond t (tent n r) r) (le-leb 2 plan l)
-
--- at the call: "There are n lines and n lenses, d unsigned 16-bit numbers to a line", and "Line i, from 0 to n-1, holds for each axis j
--- the residue r of i × z_j" or what stands for it (document 01, "Cutting list")
+-- where the call answers 0
 module _ (plan d n : ℕ) (z old out : List ℕ) (told : PointListCall plan d n z old out 0) where
   lines-written : out ≡ pointList plan n z
   lines-written = answered-writes (pointRefusal plan d n z (length old)) (pointList plan n z) old out 0 told refl
@@ -170,11 +161,22 @@ module _ (plan d n : ℕ) (z old out : List ℕ) (told : PointListCall plan d n 
   axes : length z ≡ d
   axes = point-clear plan d n z (length old) (sym (told .number)) .vector .size
 
+  -- "that is the lens count" (document 02, d), "d unsigned 16-bit numbers to a line" (document 01, "Cutting list")
   pub point-list-length : length out ≡ lineCount plan n * d
   point-list-length = ap length lines-written ∙ points-length plan n z ∙ ap (λ (t : ℕ). lineCount plan n * t) axes
 
+  -- "Line i .. holds for each axis j the residue r of i × z_j", or what stands for it (document 01, "Cutting list")
   pub point-list-at : (i j : ℕ) → i < lineCount plan n → j < d → getD out (i * d + j) 0 ≡ coordinate plan n ((i * getD z j 0) % n)
   point-list-at i j l h =
       ap (λ (o : List ℕ). getD o (i * d + j) 0) lines-written
       ∙ ap (λ (t : ℕ). getD (pointList plan n z) (i * t + j) 0) (sym axes)
       ∙ points-at plan n z i j l (omega (arith, axes))
+
+  -- "The omitted lines are shown equal to kept ones" (document 02, d): what document 01 says of line i stands at line n - i
+  pub point-list-omitted : (i j : ℕ) → lineCount plan n ≤ i → i < n → j < d → getD out ((n - i) * d + j) 0 ≡ coordinate plan n ((i * getD z j 0) % n)
+  point-list-omitted i j o h k =
+      point-list-at (n - i) j (omitted plan n z i o h .0) k ∙ coordinate-twin plan n i (getD z j 0) (omitting plan n i o h) h
+
+  -- "Fourier users see their old list" (document 02, d): all n lines
+  pub point-list-whole : plan < 2 → out ≡ pointLines plan n z (upTo n)
+  point-list-whole l = lines-written ∙ ap (λ (t : ℕ). pointLines plan n z (upTo t)) (lines-whole plan n l)

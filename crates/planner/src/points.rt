@@ -23,11 +23,12 @@ fn coordinate_of(plan: u8, n: u16, r: u16) -> u16
     if up <= down { up } else { down }
 }
 
-// How many lines the list has.
-pub(crate) fn line_count(plan: u8, n: u16) -> usize
+// How many lines the list has, which is the lens count. Under the tent line n - i equals line i, so plans 2, 3 and 4 keep lines 0 to
+// n / 2 and omit their twins; plans 0 and 1 have all n lines.
+pub(crate) fn line_count(plan: u8, n: u16) -> u16
     ensures { λ r. ⌜ r ≡ lineCount plan n ⌝ }
 {
-    n as usize
+    if plan < 2 { n } else { n / 2 + 1 }
 }
 
 // One component of line i.
@@ -50,13 +51,14 @@ fn write_line(plan: u8, n: u16, z: &[u16], i: u16, out: &mut [u16], at: usize)
     }
 }
 
-// The whole list, line 0 and up.
+// The lines that are kept, line 0 and up.
 pub(crate) fn write_points(plan: u8, d: usize, n: u16, z: &[u16], out: &mut [u16])
     requires { ⌜ (d ≤ axes) × ValidModulus n × InRange n d (now z) × (length (now out) ≡ lineCount plan n * d) ⌝ }
     ensures { λ _. ⌜ now (out .exit) ≡ pointList plan n (now (z .entry)) ⌝ }
 {
+    let lines = line_count(plan, n);
     let mut at = 0;
-    for i in 0..n {
+    for i in 0..lines {
         write_line(plan, n, z, i, out, at);
         at += d;
     }

@@ -6,6 +6,7 @@ use crate::products::prepare_rows;
 use crate::rule::admits;
 use crate::sizes::PRODUCT_ROOM;
 use crate::sums::all_gather;
+use crate::widths::wide;
 use refusal::axes_refusal;
 use refusal::list_pair_refusal;
 use refusal::map_plan_refusal;
@@ -142,7 +143,7 @@ pub(crate) fn point_refusal(plan: u8, d: usize, n: u16, z: &[u16], places: usize
     if pair != 0 {
         return pair;
     }
-    places_refusal(places, line_count(plan, n) * d)
+    places_refusal(places, wide(line_count(plan, n)) * d)
 }
 
 // What a search refuses of the modulus n, or the ceiling n, and of the places lent for the vector: 6, and then 8.

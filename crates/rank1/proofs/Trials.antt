@@ -1,6 +1,5 @@
 -- The trial tickets of document 01, and the ticket without terms of document 02, a, under each plan: one table, and one theorem over
--- it. Each entry is the smallest plan for its rows, whatever the ceiling, and has the c printed there. Beside it row (6) under plan 0,
--- and two lines of a point list.
+-- it. Each entry is the smallest plan for its rows, whatever the ceiling, and has the c printed there. Beside it row (6) under plan 0.
 use mathlib.Core.Path.{_≡_, refl, sym, _∙_, ap}
 use mathlib.Core.Logic.{_≢_}
 use mathlib.Core.Bool.{Bool, true, _&&_}
@@ -14,7 +13,6 @@ use Rattle.rank1.specs.Rule.{Admissible}
 use Rattle.rank1.specs.RuleTest.{admissible}
 use Rattle.rank1.specs.Search.{Hopeless, First, Smallest, NoPlan}
 use Rattle.rank1.specs.Sums.{copies}
-use Rattle.rank1.specs.Points.{pointLine}
 use Rattle.rank1.proofs.SearchLaws.{Outcome, plan-of, OutcomeIs, determined}
 use Rattle.rank1.proofs.TestLaws.{both, every-at, decides-row}
 use Rattle.rank1.proofs.SearchTests.{planTested, smallestTest, smallest-holds, first-holds, hopeless-holds, no-plan-holds}
@@ -133,7 +131,3 @@ six-at-six = hopeless-holds (planTested 0 six) 1 6 (omega arith) tt
 pub six-at-seven : First (Admissible 0 six) 1 7 (1 ∷ [])
 unfolding admissible
 six-at-seven = first-holds (planTested 0 six) 1 7 (1 ∷ []) tt
-
--- ---- at n = 5, z = (1, 2), line 3: the residues under plan 1, the tent numerators under plan A
-pub line-three : (pointLine 1 5 (1 ∷ 2 ∷ []) 3 ≡ 3 ∷ 1 ∷ []) × (pointLine 2 5 (1 ∷ 2 ∷ []) 3 ≡ 4 ∷ 2 ∷ [])
-line-three = (refl, refl)

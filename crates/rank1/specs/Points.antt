@@ -1,7 +1,7 @@
--- The point list (document 01, "Cutting list").
+-- The point list (document 01, "Cutting list"; how many lines it has: document 02, d).
 use mathlib.Core.Bool.{cond}
 use mathlib.Core.List.{List, [], _∷_, _++_, map}
-use Prim.Native.Nat.{ℕ, _*_, _-_, _%_, min}
+use Prim.Native.Nat.{ℕ, _+_, _*_, _-_, _/_, _%_, min}
 use lib.Dec.{leb}
 use Rattle.rank1.specs.Tests.{upTo}
 
@@ -17,9 +17,9 @@ coordinate plan n r = cond (leb 2 plan) (tent n r) r
 abbrev pub pointLine : ℕ → ℕ → List ℕ → ℕ → List ℕ
 pointLine plan n z i = map (λ x. coordinate plan n ((i * x) % n)) z
 
--- how many lines the list has, which is the number of lenses
+-- how many lines the list has, which is the lens count: lines 0 to n/2 rounded down for plans 2, 3 and 4, all n for plans 0 and 1
 abbrev pub lineCount : ℕ → ℕ → ℕ
-lineCount plan n = n
+lineCount plan n = cond (leb 2 plan) (n / 2 + 1) n
 
 -- the lines whose numbers are given, one after the other
 abbrev pub pointLines : ℕ → ℕ → List ℕ → List ℕ → List ℕ

@@ -274,19 +274,24 @@ pub fn gather(
     Ok(terms)
 }
 
+/// Line i of the cutting list, listed or not.
+pub fn line(plan: u8, n: i64, z: &[i64], i: i64) -> Vec<u16> {
+    let residues = z.iter().map(|x| (i * x).rem_euclid(n));
+    residues.map(|r| if plan >= 2 { (2 * r).min(2 * n - 2 * r) } else { r } as u16).collect()
+}
+
+/// Whether line i, of lines 0 to n - 1, is listed: under plans 2, 3 and 4 those up to half of n are.
+pub fn listed(plan: u8, n: i64, i: i64) -> bool {
+    plan < 2 || 2 * i <= n
+}
+
 pub fn point_list(plan: u8, d: usize, n: u16, z: &[u16], places: usize) -> Result<Vec<u16>, u8> {
     refuse(1, plan > 4)?;
     refuse(2, !(1..=6).contains(&d))?;
     let (n, z) = the_pair(d, n, z)?;
-    refuse(8, places != n as usize * d)?;
-    let mut out = Vec::new();
-    for i in 0..n {
-        for &x in &z {
-            let r = (i * x).rem_euclid(n);
-            out.push(if plan >= 2 { (2 * r).min(2 * n - 2 * r) } else { r } as u16);
-        }
-    }
-    Ok(out)
+    let lines: Vec<_> = (0..n).filter(|&i| listed(plan, n, i)).map(|i| line(plan, n, &z, i)).collect();
+    refuse(8, places != lines.len() * d)?;
+    Ok(lines.concat())
 }
 
 /// The first admissible vector at n in dictionary order.
