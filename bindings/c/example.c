@@ -41,14 +41,14 @@ static int type_rows(const int16_t *rows)
 static int list_points(uint16_t n, const uint16_t *z)
 {
     uint16_t points[(CEILING / 2 + 1) * 2];
-    size_t lenses = n / 2 + 1;
+    size_t lines = n / 2 + 1;
 
-    uint8_t refused = planner_point_list(2, 2, n, z, 2, points, lenses * 2);
+    uint8_t refused = planner_point_list(2, 2, n, z, 2, points, lines * 2);
     if (refused != 0) {
         printf("refused %" PRIu8 "\n", refused);
         return 1;
     }
-    for (size_t i = 0; i < lenses; i++) {
+    for (size_t i = 0; i < lines; i++) {
         printf("lens %zu: %" PRIu16 "/%" PRIu16 " %" PRIu16 "/%" PRIu16 "\n", i, points[2 * i], n, points[2 * i + 1], n);
     }
     return 0;

@@ -81,7 +81,7 @@ pub extern "C" fn planner_gather(
     planner::gather(plan, d, rows, n, z, sums, terms)
 }
 
-// The point list: as many lines of d numbers as there are lenses.
+// The point list: `lineCount` lines of d numbers, one for each lens.
 #[no_mangle]
 pub extern "C" fn planner_point_list(plan: u8, d: usize, n: u16, z: &[u16], out: &mut [u16]) -> u8
     ensures { λ r. ⌜ PointListCall plan d n (now (z .entry)) (now (out .entry)) (now (out .exit)) r ⌝ }

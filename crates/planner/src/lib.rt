@@ -110,7 +110,7 @@ pub fn gather(
     0
 }
 
-// The point list: as many lines of d numbers as there are lenses.
+// The point list: `lineCount` lines of d numbers, one for each lens.
 pub fn point_list(plan: u8, d: usize, n: u16, z: &[u16], out: &mut [u16]) -> u8
     ensures { λ r. ⌜ PointListCall plan d n (now (z .entry)) (now (out .entry)) (now (out .exit)) r ⌝ }
 {

@@ -35,7 +35,7 @@ lines-half plan n l = ap (λ (t : Bool). cond t (n / 2 + 1) n) (le-leb 2 plan l)
 pub kept : (plan n i : ℕ) → 2 ≤ plan → (i < lineCount plan n) ↔ (2 * i ≤ n)
 kept plan n i l = (λ below. omega (arith, lines-half plan n l), λ half. omega (arith, lines-half plan n l))
 
--- there are never more than n
+-- of a modulus, which is never 0, there are no more lines than n
 pub lines-few : (plan n : ℕ) → 0 < n → lineCount plan n ≤ n
 lines-few plan n h = elim (decLt plan 2) [
   | yes l ↦ omega (arith, lines-whole plan n l)

@@ -27,7 +27,7 @@ abbrev μ-loop : tie.MeasureT-loop
 line-count-requires : tie.Need-line-count-requires Inv-loop μ-loop
 line-count-requires c κs = search needs
 
--- ---- places: the loop, behind `line_count`, behind the entry
+-- ---- the way back from the loop: to where the lines were counted, and to the entry
 abbrev counted : tie.At-loop Inv-loop μ-loop → tie.After-line-count Inv-loop μ-loop
 counted l = l .before
 
@@ -46,9 +46,9 @@ line-fits l h =
     let lines = counted l .line-count .result in
     omega (arith, l .loop .inv .1, l .loop .inv .2, row-fits d lines (l .loop .i) (lines * d) h (le-refl (lines * d)))
 
--- there are as many places as at the entry
-places-kept : (l : tie.At-loop Inv-loop μ-loop) → length (l .loop .out) ≡ length (entry (counted l) .args .out .now)
-places-kept l =
+-- the lent run has the length that it had at the entry
+run-kept : (l : tie.At-loop Inv-loop μ-loop) → length (l .loop .out) ≡ length (entry (counted l) .args .out .now)
+run-kept l =
     let k = counted l in
     l .loop .inv .2 ∙ ap (λ (t : ℕ). t * entry k .args .d) (k .line-count .ensures) ∙ sym (entry k .pre .3)
 
@@ -68,7 +68,7 @@ write-line-requires c κs =
 add-at : tie.Need-add-at Inv-loop μ-loop
 add-at c =
     let l = c .before .before .before .before .before in
-    omega (arith, line-fits l (c .before .before .before .before .loop-test .taken), places-kept l, entry (counted l) .good)
+    omega (arith, line-fits l (c .before .before .before .before .loop-test .taken), run-kept l, entry (counted l) .good)
 
 add-i : tie.Need-add-i Inv-loop μ-loop
 add-i c = search needs
@@ -91,7 +91,7 @@ loop-again c =
     )
 
 same-length : tie.Need-same-length Inv-loop μ-loop
-same-length c = places-kept (c .before)
+same-length c = run-kept (c .before)
 
 returns : tie.Need-returns Inv-loop μ-loop
 returns c =
