@@ -776,6 +776,26 @@ fn twin_lines() {
     }
 }
 
+/// Every residue of a modulus has what its case gives (02, e): with z = (1, n - 1) line i has the residues i and n - i.
+#[test]
+fn tent_cases() {
+    let mut met = [0; 4];
+    for n in (1..=300).chain(8189..=8192) {
+        for plan in 2..=4 {
+            let c = Case { plan, d: 2, rows: vec![], n, z: vec![1 % n, n - 1] };
+            let list = compare_points(&c, point_places(&c)).unwrap();
+            let residues = (0..=n / 2).flat_map(|i| [i, (n - i) % n]);
+            assert_eq!(list.len(), residues.clone().count(), "{c:?}");
+            for (&numerator, r) in list.iter().zip(residues) {
+                let (case, given) = independent::tent_case(i64::from(n), i64::from(r));
+                assert_eq!(i64::from(numerator), given, "{c:?} {r}");
+                met[case] += 1;
+            }
+        }
+    }
+    assert!(met.iter().all(|&count| count > 400), "{met:?}");
+}
+
 /// The searches against every modulus and every vector in order, on small lists.
 #[test]
 fn searches() {

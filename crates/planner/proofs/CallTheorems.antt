@@ -15,6 +15,8 @@ use Rattle.rank1.specs.Rule.{Admissible}
 use Rattle.rank1.specs.RuleTest.{admissible}
 use Rattle.rank1.specs.Sums.{in32, copies, residueMap, sumAt, spreadSums, gatheredTerms, gathers}
 use Rattle.rank1.specs.Points.{coordinate, lineCount, pointLines, pointList}
+use Rattle.rank1.specs.declared.TentCase.{TentCase}
+use Rattle.rank1.specs.Tent.{Meets, numerator}
 use Rattle.rank1.specs.Refusal.{checkRefusal, mapRefusal, spreadRefusal, gatherRefusal, pointRefusal}
 use Rattle.rank1.proofs.UpTo.{length-map-upTo}
 use Rattle.rank1.proofs.IndexLaws.{rows-length}
@@ -24,6 +26,7 @@ use Rattle.rank1.proofs.WholeSums.{total, in32-mag}
 use Rattle.rank1.proofs.SumLaws.{weighted, map-residue, map-copies, spread-total}
 use Rattle.rank1.proofs.GatherLaws.{gather-spread, gather-passes, reads-terms}
 use Rattle.rank1.proofs.PointLaws.{lines-whole, coordinate-twin, omitting, omitted}
+use Rattle.rank1.proofs.TentLaws.{coordinate-case}
 use Rattle.planner.specs.declared.Verdict.{Verdict}
 use Rattle.planner.specs.declared.Verdict.the-variants as answer
 use Rattle.planner.specs.Answer.{checkAnswer, written, Answered, ResidueMapCall, SpreadCall, GatherCall, PointListCall}
@@ -171,6 +174,10 @@ module _ (plan d n : ℕ) (z old out : List ℕ) (told : PointListCall plan d n 
       ap (λ (o : List ℕ). getD o (i * d + j) 0) lines-written
       ∙ ap (λ (t : ℕ). getD (pointList plan n z) (i * t + j) 0) (sym axes)
       ∙ points-at plan n z i j l (omega (arith, axes))
+
+  -- "the numerator goes by cases" (document 02, e): for plans 2, 3 and 4, what the case gives that the residue meets
+  pub point-list-case : (i j : ℕ) (c : TentCase) → i < lineCount plan n → j < d → 2 ≤ plan → Meets n ((i * getD z j 0) % n) c → getD out (i * d + j) 0 ≡ numerator n ((i * getD z j 0) % n) c
+  point-list-case i j c l h p m = point-list-at i j l h ∙ coordinate-case plan n ((i * getD z j 0) % n) c p m
 
   -- "The omitted lines are shown equal to kept ones" (document 02, d): what document 01 says of line i stands at line n - i
   pub point-list-omitted : (i j : ℕ) → lineCount plan n ≤ i → i < n → j < d → getD out ((n - i) * d + j) 0 ≡ coordinate plan n ((i * getD z j 0) % n)

@@ -21,6 +21,7 @@ mod sieve;
 mod sizes;
 mod sums;
 mod table;
+mod tent;
 mod widths;
 
 use crate::sizes::PRODUCT_ROOM;

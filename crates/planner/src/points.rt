@@ -1,5 +1,6 @@
 // The point list (document 01's cutting list) of a valid pair.
 
+use crate::tent::tent_numerator;
 use crate::widths::wide32;
 ghost use mathlib.Core.Path.{_≡_};
 ghost use mathlib.Core.List.{_++_};
@@ -15,12 +16,7 @@ fn coordinate_of(plan: u8, n: u16, r: u16) -> u16
     requires { ⌜ (r < n) × (n ≤ largestModulus) ⌝ }
     ensures { λ c. ⌜ c ≡ coordinate plan n r ⌝ }
 {
-    if plan < 2 {
-        return r;
-    }
-    let up = 2 * r;
-    let down = 2 * n - 2 * r;
-    if up <= down { up } else { down }
+    if plan < 2 { r } else { tent_numerator(n, r) }
 }
 
 // How many lines the list has, which is the lens count. Under the tent line n - i equals line i, so plans 2, 3 and 4 keep lines 0 to

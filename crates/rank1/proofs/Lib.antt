@@ -1,5 +1,5 @@
--- The laws of the definitions in specs/: numbers, lists, mirrors, the rules, the searches, the sums, the point list, the tally, lists
--- given by corners.
+-- The laws of the definitions in specs/: numbers, lists, mirrors, the rules, the searches, the sums, the point list, the tent by cases,
+-- the tally, lists given by corners.
 pub mod Whole
 pub mod Modulo
 pub mod ResidueLaws
@@ -24,6 +24,8 @@ pub mod GatherLaws
 pub mod SumExamples
 pub mod PointLaws
 pub mod PointTrials
+pub mod TentLaws
+pub mod TentTrials
 pub mod VectorLaws
 pub mod FirstLaws
 pub mod CountingLaws

@@ -7,3 +7,12 @@ pub struct Tally {
     pub size: u32,
     pub zero: bool,
 }
+
+// The cases of a tent numerator (document 02, e): the residue is zero, any other below half of n, exactly half, or above half. Which
+// of them a residue meets, and what each gives, is said in specs/Tent.antt.
+pub enum TentCase {
+    Zero,
+    BelowHalf,
+    Half,
+    AboveHalf,
+}

@@ -4,6 +4,7 @@
 //!
 //! A call answers with what it would write, or with the number of the refusal.
 
+use std::cmp::Ordering;
 use std::collections::BTreeSet;
 
 /// The number from 0 to n-1 that differs from h·z by a multiple of n.
@@ -272,6 +273,17 @@ pub fn gather(
         terms.push(i32::try_from(sum / c).map_err(|_| 11)?);
     }
     Ok(terms)
+}
+
+/// Which of document 02's cases a residue meets (zero, below half, exactly half, above half: 0 to 3), and what it gives. `line` below
+/// has document 01's minimum in its place.
+pub fn tent_case(n: i64, r: i64) -> (usize, i64) {
+    match (2 * r).cmp(&n) {
+        _ if r == 0 => (0, 0),
+        Ordering::Less => (1, 2 * r),
+        Ordering::Equal => (2, n),
+        Ordering::Greater => (3, 2 * n - 2 * r),
+    }
 }
 
 /// Line i of the cutting list, listed or not.
