@@ -13,13 +13,13 @@ use Rattle.rank1.proofs.Order.{compared}
 use Rattle.rank1.proofs.PointLaws.{coordinate-tent}
 
 -- ---- exactly one case
--- a residue below n meets no two cases
+-- a residue below n meets no two cases: the same one, or by arithmetic not both
 pub only-case : (n r : ℕ) → r < n → (c other : TentCase) → Meets n r c → Meets n r other → other ≡ c
 only-case n r l case.Zero case.Zero m o = refl
-only-case n r l case.Zero case.BelowHalf m o = absurd (o .0 m)
+only-case n r l case.Zero case.BelowHalf m o = absurd (omega arith)
 only-case n r l case.Zero case.Half m o = absurd (omega arith)
 only-case n r l case.Zero case.AboveHalf m o = absurd (omega arith)
-only-case n r l case.BelowHalf case.Zero m o = absurd (m .0 o)
+only-case n r l case.BelowHalf case.Zero m o = absurd (omega arith)
 only-case n r l case.BelowHalf case.BelowHalf m o = refl
 only-case n r l case.BelowHalf case.Half m o = absurd (omega arith)
 only-case n r l case.BelowHalf case.AboveHalf m o = absurd (omega arith)
