@@ -2,7 +2,8 @@
 
     python3 bench/run.py                    builds `plan` and the peer, runs every request on both, checks that the answers are the same,
                                             prints the tables
-    python3 bench/run.py --before PATH      runs the `plan` of an earlier commit too: PATH is its executable, built beside this one
+    python3 bench/run.py --before PATH      runs the `plan` of an earlier commit too: PATH is its executable, built beside this one. It must give
+                                            the same modulus; its vector may be another, since the order changed with request f
     python3 bench/run.py --write            also writes the tables into bench/README.md, with the plots bench/rows.svg and bench/axes.svg
     python3 bench/run.py --only PART        only the requests whose names have PART in them, nothing else
     python3 bench/run.py --plan PATH        builds no `plan` but takes this executable
@@ -139,6 +140,10 @@ class Run:
     def shown(self):
         return "> %d" % self.limit if self.answer is None else "%.3f" % self.seconds
 
+    def modulus(self):
+        """The first word of the answer: the modulus, or 'refused'."""
+        return self.answer.split()[0].decode()
+
 
 def in_turns(*runs):
     """Runs the programs one after the other, and again while they are short: 5 turns below half a second, 3 below five, else 1."""
@@ -163,12 +168,12 @@ def compared(request, before):
     assert plan.answer == peer.answer, (request.name, request.plan, plan.answer[:80], peer.answer[:80])
     words = peer.said.split()
     ratio = plan.seconds / peer.seconds
-    cells = [request.name, NAMES[request.plan], len(request.rows), members(request), words[5], plan.answer.split()[0].decode(), words[1],
+    cells = [request.name, NAMES[request.plan], len(request.rows), members(request), words[5], plan.modulus(), words[1],
              plan.shown(), peer.shown(), "%.2f" % ratio]
     if before:
         earlier = Run(before, text, LIMIT)
         in_turns(earlier)
-        assert earlier.answer in (None, plan.answer), (request.name, request.plan, plan.answer[:80], earlier.answer[:80])
+        assert earlier.answer is None or earlier.modulus() == plan.modulus(), (request.name, request.plan, plan.answer[:80], earlier.answer[:80])
         gain = (LIMIT if earlier.answer is None else earlier.seconds) / plan.seconds
         cells += [earlier.shown(), ("> " if earlier.answer is None else "") + ("%.1f" % gain if gain < 10 else "%.0f" % gain)]
     return cells, ratio if peer.seconds > COUNTS else None
@@ -275,13 +280,14 @@ def machine():
 
 def page(before, tables):
     requested, full, forced, by_rows, by_axes = tables
-    earlier = ["`before` is the program before request b (commit da43d33), which starts at the number of rows, stopped after %d s; gain is its time over plan's." % LIMIT]
+    earlier = ["`before` is the program before request f (commit 438c460), which gives the first vector in dictionary order, stopped after %d s;" % LIMIT,
+               "gain is its time over plan's."]
     return "\n".join(
         ["# Speed", "", "Made by `python3 bench/run.py --write` on: %s." % machine(), "",
          "Times are of whole processes, the least of 5 turns below half a second, of 3 below five, else of 1; in a turn the programs run one",
          "after the other. `plan` is the proved program, the peer is bench/peer.cpp (plain C++, the same search, g++ -O3 -march=native), ratio",
          "plan's time over the peer's. Members are the rows or mirrors that differences are taken from, differences those that the peer keeps (all),",
-         "prefixes those whose next component it sieved. Where the compiled recursion lies in memory moves times by up to 15 %",
+         "prefixes those whose next component it sieved. Where the compiled recursion lies in memory moves times by up to a quarter",
          "(docs/DECISIONS.md, \"Speed\"), so a change far from the search may do it."] + (earlier if before else [])
         + ["", "## Beside the peer", ""] + requested
         + ["", "## Beside the peer, where the table of differences is full", "",

@@ -14,11 +14,14 @@
  *   n               the modulus, 1 to 8192
  *   z, z_len        the generating vector: d numbers from 0 to n - 1, so z_len is d
  *   tally           the record of a list (planner_tally, below), passed by value
+ *   left, left_len, right, right_len
+ *                   two vectors to compare, of any lengths and any numbers
  * A length counts elements, not bytes.
  *
  * The answer
- *   Every call returns the number of the refusal, 0 for none. Each call tries the conditions that are listed at it in their order
- *   and returns the first that applies; then nothing that was lent is written. Any values may be passed: no call fails otherwise.
+ *   Every call but planner_gentler returns the number of the refusal, 0 for none: it tries the conditions that are listed at it in
+ *   their order and returns the first that applies; then nothing that was lent is written. planner_gentler refuses nothing, and its
+ *   0 or 1 says which vector wins. Any values may be passed: no call fails otherwise.
  *
  *    1  plan above 4; for map, spread and gather also plan 0
  *    2  d not 1 to 6
@@ -98,7 +101,8 @@ uint8_t planner_gather(uint8_t plan, size_t d, const int16_t *rows, size_t rows_
 uint8_t planner_point_list(uint8_t plan, size_t d, uint16_t n, const uint16_t *z, size_t z_len, uint16_t *out, size_t out_len);
 
 /*
- * The vector search: the first admissible vector at n in dictionary order, the first component most significant.
+ * The vector search: the gentlest admissible vector at n. Of all with components from 0 to n - 1 it is the one with the least
+ * largest component; of those that share it, the first in dictionary order, the first component most significant.
  * Refusals: 1 2 3 4 5 6, 8 where z_len is not d, 9 where no vector is admissible at n.
  * Writes, where it returns 0: z, d numbers from 0 to n - 1, and *found, which is n.
  */
@@ -106,14 +110,22 @@ uint8_t planner_search_vector(uint8_t plan, size_t d, const int16_t *rows, size_
                               uint16_t *found);
 
 /*
- * The smallest plan: the smallest modulus from 1 to the ceiling that has an admissible vector, and the first such vector. For a list
- * of no rows every pair is admissible, so it is n = 1 with the vector of zeros.
+ * The smallest plan: the smallest modulus from 1 to the ceiling that has an admissible vector, and the gentlest one there, as the
+ * vector search gives it. For a list of no rows every pair is admissible, so it is n = 1 with the vector of zeros.
  * Refusals: 1 2 3 4 5 6, 8 where z_len is not d, 9 where no modulus up to the ceiling has one.
  * Writes, where it returns 0: z, d numbers from 0 to *found - 1, and *found, the modulus.
  * It may take long: the ceiling bounds the moduli that it tries.
  */
 uint8_t planner_search_smallest(uint8_t plan, size_t d, const int16_t *rows, size_t rows_len, uint16_t ceiling, uint16_t *z,
                                 size_t z_len, uint16_t *found);
+
+/*
+ * The gentler of two vectors, by the order of the searches: the shorter one wins; at one length the one with the smaller largest
+ * component; where these are equal the first in dictionary order; on a full tie the left one. They may overlap, or be the same.
+ * Refusals: none. Writes nothing.
+ * Returns 0 where the left one wins and 1 where the right one wins: the winner is left or right itself, as it was lent.
+ */
+uint8_t planner_gentler(const uint16_t *left, size_t left_len, const uint16_t *right, size_t right_len);
 
 /*
  * The running tally: which moduli are hopeless is known from the record of a list, while its rows are still being typed.

@@ -1,7 +1,7 @@
 """A brute-force planner, written from the words of documents 01 and 02 alone, to hold the proved planner against.
 
-It shares nothing with the crates and knows no shortcut: every modulus from 1 upward, every vector in dictionary order, every rule
-pair by pair. A list is a tuple of rows, a row a tuple of d numbers; a list may have no rows.
+It shares nothing with the crates and knows no shortcut: every modulus from 1 upward, every vector there, the gentlest first (document
+02, f), every rule pair by pair. A list is a tuple of rows, a row a tuple of d numbers; a list may have no rows.
 
     python3 tests/brute.py < request      prints the answer, as the program `plan` would
 """
@@ -83,23 +83,37 @@ def admissible(plan, rows, n, z):
 
 # Search
 
+def all_vectors(d, n):
+    """All vectors of d components from 0 to n-1, the gentlest first: by the largest component, then in dictionary order."""
+    for largest in range(n):
+        for z in itertools.product(range(largest + 1), repeat=d):
+            if largest in z:
+                yield z
+
+
 @functools.lru_cache(maxsize=None)
-def first_vector(plan, d, rows, n):
-    """The first admissible vector of d components at n in dictionary order, or None.
+def gentlest_vector(plan, d, rows, n):
+    """The gentlest admissible vector of d components at n, or None.
 
     Components from 0 to n-1 are all there is to try: a residue does not change when a multiple of n is added to a component.
     The result is kept, so that one list under several ceilings costs its moduli only once.
     """
-    for z in itertools.product(range(n), repeat=d):
+    for z in all_vectors(d, n):
         if admissible(plan, rows, n, z):
             return z
     return None
 
 
+def gentler(left, right):
+    """The winner of two vectors: the shorter, then the one with the smaller largest component, then the first in dictionary order; `min`
+    gives the left one on a full tie."""
+    return min(left, right, key=lambda z: (len(z), max(z, default=0), z))
+
+
 def smallest(plan, d, rows, ceiling):
     """The smallest plan: n and z, moduli tried upward from 1 to the ceiling."""
     for n in range(1, ceiling + 1):
-        z = first_vector(plan, d, rows, n)
+        z = gentlest_vector(plan, d, rows, n)
         if z is not None:
             return n, z
     raise Refused(9)

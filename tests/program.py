@@ -2,9 +2,10 @@
 
     python3 tests/program.py          after rt ci or rt check, which build target/bin/plan
 
-Requests: the examples, a ticket without terms under each plan, those of tests/requests.py that are too long for `trials` (tests/brute.sh writes
-them), one for each refusal that the program can give, the same request written slowly through a pipe, and a few hundred random byte
-strings, of which each must end with status 0 and one well-formed answer that the brute-force planner gives too.
+Requests: the examples, a ticket without terms under each plan, one whose answer is not the first vector in dictionary order, those of
+tests/requests.py that are too long for `trials` (tests/brute.sh writes them), one for each refusal that the program can give, the same
+request written slowly through a pipe, and a few hundred random byte strings, of which each must end with status 0 and one well-formed
+answer that the brute-force planner gives too.
 """
 
 import glob
@@ -23,6 +24,7 @@ PROGRAM = os.path.join(HERE, "..", "target", "bin", "plan")
 EXAMPLE = b"4 1 3 10\n0\n1\n2\n"
 PRINTED = b"4 1\n0 1\n1 1\n2 2\n"
 NO_TERMS = b"%d 2 0 10\n"                               # document 02, a: a ticket without terms
+APART = b"2 2 2 10\n1 0\n1 1\n"                          # document 02, f: (1, 3) is admissible too, and before (2, 1) in dictionary order
 WELL_FORMED = re.compile(rb"refused (?:[1-9]|1[0-2])\n|(?:\d+(?: \d+)+\n)+")
 
 # one request for each number that the program can refuse with
@@ -73,6 +75,7 @@ def main():
         same(NO_TERMS % plan, run(NO_TERMS % plan), b"1 0 0\n")
         for behind in (b"\n", b" ", b"0 0\n"):
             same(NO_TERMS % plan + behind, run(NO_TERMS % plan + behind), b"refused 12\n")
+    same(APART, run(APART), b"7 2 1\n2 1\n3 1\n")
     for number, request in REFUSED.items():
         same(request, run(request), b"refused %d\n" % number)
         same(request, run_slowly(request[:40]), brute.answer(request[:40]))

@@ -32,7 +32,7 @@ import large
 #   4    15,333     0.11     0.20
 #   5     4,425     0.02     0.03
 #   6     4,890     0.02     0.03
-# The whole of it, `costs` says by kind; it took about 45 s. The dearest single request is total degree 2 on three axes, plan 4: 4.6 s.
+# The whole of it, `costs` says by kind; it took about 50 s. The dearest single request is total degree 2 on three axes, plan 4: 4.6 s.
 LARGEST = {1: 300, 2: 40, 3: 16, 4: 9, 5: 5, 6: 4}
 EASY = {1: 60, 2: 24, 3: 11, 4: 7}                       # the same where many lists are drawn for one that is kept
 
@@ -115,6 +115,22 @@ def plan_of(plan, rows, reach=LARGEST):
         return brute.smallest(plan, len(rows[0]), rows, reach[len(rows[0])])
     except brute.Refused:
         return None
+
+
+def first_below(plan, rows, n, bound):
+    """The first admissible vector at n in dictionary order among those with components below the bound, or None."""
+    vectors = itertools.product(range(bound), repeat=len(rows[0]))
+    return next((z for z in vectors if brute.admissible(plan, rows, n, z)), None)
+
+
+def descent(plan, rows, n):
+    """The first vector at n in dictionary order, then the first of those below its largest component, and so on: the last is the gentlest."""
+    vectors = []
+    z = first_below(plan, rows, n, n)
+    while z is not None:
+        vectors.append(z)
+        z = first_below(plan, rows, n, max(z))
+    return vectors
 
 
 def affordable(request):
@@ -296,7 +312,8 @@ def far_components():
 
 
 def first_component_above_one():
-    """Lists whose answer has a first component above 1 (so a divisor of n that is not 1): rows (a, 1, ..) for many a spoil 1."""
+    """Lists that have no vector with a first component of 0 or 1 at the answer's n, but one with a divisor of n: rows (a, 1, ..) for many
+    a spoil 1."""
     rng = random.Random(108)
     requests = []
     for plan in range(5):
@@ -312,7 +329,7 @@ def first_component_above_one():
             if not fits(plan, rows):
                 continue
             found = plan_of(plan, rows)
-            if found is not None and found[1][0] > 1:
+            if found is not None and first_below(plan, rows, found[0], found[0])[0] > 1:
                 requests += under_ceilings(rng, plan, rows)
                 kept += 1
     return requests
@@ -422,11 +439,28 @@ def above_half(plan, rows, n, z):
     return any(2 * z[j] > n for j in open_axes(plan, rows))
 
 
+# Under plan 4 the gentlest vector is above half for one list of a thousand. Some such lists, by the number of axes.
+RARE = {
+    2: (((0, 1), (0, 3), (1, 2), (3, 2)), ((1, 2), (2, 1), (2, 3), (3, 2)), ((1, 0), (3, 0), (1, 1), (2, 1), (2, 3))),
+    3: (((3, 0, 0), (1, 1, 0), (1, 0, 3), (1, 0, 0)), ((0, 0, 0), (2, 0, 0), (0, 1, 1), (0, 1, 0), (3, 3, 2)),
+        ((0, 0, 1), (0, 0, 2), (0, 0, 3), (0, 2, 1), (1, 0, 3))),
+}
+
+
+def draw_tight(rng, plan, d):
+    """A list that may well be above half: a few rows, and under plan 4 a rare list with its axes and rows in another order."""
+    if plan != 4:
+        return draw_few(rng, plan, d)
+    rows = rng.choice(RARE[d])
+    axes = rng.sample(range(d), d)
+    return tuple(tuple(row[axis] for axis in axes) for row in rng.sample(rows, len(rows)))
+
+
 def draw_with_axis(rng, plan, d):
     """A few rows on d - 1 axes whose answer is above half, and one or two rows on one more axis alone, so that its sign is closed."""
     found = None
     while found is None or not above_half(plan, rows, *found):
-        rows = draw_few(rng, plan, d - 1)
+        rows = draw_tight(rng, plan, d - 1)
         found = plan_of(plan, rows, {d - 1: EASY[d]})
     axis = rng.randrange(d)
     alone = [(0,) * axis + (x,) + (0,) * (d - axis - 1) for x in rng.sample(range(1, 4), rng.randrange(1, 3))]
@@ -475,9 +509,34 @@ def sign_changes():
         for d in (2, 3):
             requests += keep(rng, plan, d, 2, draw_mirrored if plan <= 1 else draw_single_axis, closed)
             if plan != 2:                                # plan A keeps all mirrors apart: always closed
-                requests += keep(rng, plan, d, 2, draw_few, not_closed)
+                requests += keep(rng, plan, d, 2, draw_tight, not_closed)
             if plan != 2 and d == 3:                     # on two axes both are closed, or neither
                 requests += keep(rng, plan, d, 3, draw_mirrored if plan <= 1 else draw_with_axis, half_closed)
+    return requests
+
+
+def gentler():
+    """Lists whose answer is not the first vector in dictionary order (document 02, f). In some the answer is found after several others,
+    each below the largest component of the one before; in some its first component is no divisor of n, so that scaling would miss it."""
+    rng = random.Random(122)
+
+    def another(plan, rows, n=None, z=None):
+        return n is None or descent(plan, rows, n)[0] != z
+
+    def several(plan, rows, n=None, z=None):
+        return n is None or len(descent(plan, rows, n)) > 2
+
+    def no_divisor(plan, rows, n=None, z=None):
+        return n is None or z[0] > 0 and n % z[0] > 0
+
+    requests = [large.ticket(2, ((1, 0), (1, 1)), ceiling) for ceiling in (6, 7, 8, 8192)]
+    for plan in range(5):
+        draw = draw_list if plan == 0 else draw_few      # plan 0 has few such lists of few rows
+        for d in (2, 3, 4):
+            requests += keep(rng, plan, d, 3, draw, another)
+        for d in (2, 3):
+            requests += keep(rng, plan, d, 2, draw, no_divisor)
+        requests += keep(rng, plan, 2, 1, draw_list, several)
     return requests
 
 
@@ -775,8 +834,8 @@ def too_many_bytes():
 
 
 KINDS = (documents, random_lists, not_lower, lower, symmetric, nearly_symmetric, unused_axes, far_components,
-         first_component_above_one, wide, named_sets, many_rows, sign_changes, shared_factors, large_differences, same_end, found_late,
-         single_rows, no_rows, line_1, rows_and_m_apart, components, equal_rows, several_faults,
+         first_component_above_one, wide, named_sets, many_rows, sign_changes, gentler, shared_factors, large_differences, same_end,
+         found_late, single_rows, no_rows, line_1, rows_and_m_apart, components, equal_rows, several_faults,
          damaged, mutated, noise, too_many_bytes)
 
 

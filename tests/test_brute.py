@@ -1,9 +1,10 @@
 """Holds the brute-force planner to document 01: its trial tickets, printed example, bad blanks and refusal examples; to document 02,
-a; and to the smallest moduli that document 000 gives in (4.9) and (4.12).
+a, d and f; and to the smallest moduli that document 000 gives in (4.9) and (4.12).
 
     python3 tests/test_brute.py      prints 'brute: N checks passed'
 """
 
+import functools
 import itertools
 import sys
 
@@ -95,9 +96,39 @@ for plan in range(1, 5):
     check(brute.gather(plan, (), 3, (1, 2), [5, 6, 7]), [])
 check(brute.answer(b"2 2 0 10"), b"refused 12\n")
 
+# Gentler settings (document 02, f): the least largest component wins, then dictionary order
+check(list(brute.all_vectors(2, 3)), [(0, 0), (0, 1), (1, 0), (1, 1), (0, 2), (1, 2), (2, 0), (2, 1), (2, 2)])
+apart = {
+    0: (((0, 2), (1, 3), (3, 0)), 4),
+    1: (((0, 1), (1, 0), (1, 1), (2, 0)), 4),
+    2: (((1, 0), (1, 1)), 7),
+    3: (((1, 0), (1, 2)), 5),
+    4: (((0, 3), (1, 2), (1, 3)), 6),
+}
+for plan, (rows, n) in apart.items():
+    check(brute.smallest(plan, 2, rows, 8192), (n, (2, 1)))
+    check(brute.gentlest_vector(plan, 2, rows, n), (2, 1))
+    # dictionary order would give another
+    check([z for z in itertools.product(range(n), repeat=2) if brute.admissible(plan, rows, n, z)][0], (1, 3))
+check(brute.smallest(1, 3, ((0, 0, 0), (0, 0, 1), (1, 1, 0)), 8192), (3, (1, 1, 1)))
+check(brute.answer(b"2 2 2 10\n1 0\n1 1\n"), b"7 2 1\n2 1\n3 1\n")
+# of all that are admissible at a modulus it is the one that wins against every other
+for plan, (rows, _) in apart.items():
+    for n in range(1, 13):
+        found = [z for z in itertools.product(range(n), repeat=2) if brute.admissible(plan, rows, n, z)]
+        check(brute.gentlest_vector(plan, 2, rows, n), functools.reduce(brute.gentler, found) if found else None)
+        for z in found:
+            check(brute.gentler(z, brute.gentlest_vector(plan, 2, rows, n)), brute.gentlest_vector(plan, 2, rows, n))
+for left, right, wins in (((2, 1), (1, 3), 0), ((1, 3), (2, 1), 1), ((3, 1), (1, 3), 1), ((0, 2, 2), (2, 0, 0), 0), ((9, 9), (0, 0, 0), 0),
+                          ((0, 0, 0), (9, 9), 1), ((), (0,), 0), ((0,), (), 1), ((), (), 0)):
+    check(brute.gentler(left, right), (left, right)[wins])
+for z in [], [0], [1, 2]:
+    same = list(z)
+    check(brute.gentler(z, same) is z and brute.gentler(same, z) is same, True)
+
 # Bad blanks: no halving over n
 six = ((6,),)
-check([n for n in range(1, 8) if brute.first_vector(0, 1, six, n) is not None], [4, 5, 7])
+check([n for n in range(1, 8) if brute.gentlest_vector(0, 1, six, n) is not None], [4, 5, 7])
 # residue 0 has its opposite at 0, not at place n
 check(brute.spread(2, three, 5, (1,), (7, 0, 0)), [7, 0, 0, 0, 0])
 # no pruning by shortened rows: (3) and (0) share a residue under the first component 0, and 1 tells them apart later

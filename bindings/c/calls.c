@@ -1,6 +1,7 @@
 /*
- * Every call of the header, on document 01's small examples, on the list of no rows with NULL where a length is 0, on records
- * passed by value, and on lists given by corners. It prints the calls that answer otherwise; none where all is well.
+ * Every call of the header, on document 01's small examples, on the list of no rows with NULL where a length is 0, on vectors to
+ * compare, on records passed by value, and on lists given by corners. It prints the calls that answer otherwise; none where all is
+ * well.
  */
 #include <stdio.h>
 #include <string.h>
@@ -49,6 +50,54 @@ static void expect_no_rows(uint8_t plan)
            planner_spread(plan, 2, NULL, 0, 3, pair, 2, NULL, 0, sums, 3) == 0 && memcmp(sums, zeros, sizeof zeros) == 0);
     expect("planner_gather", planner_gather(plan, 2, NULL, 0, 3, pair, 2, zeros, 3, NULL, 0) == 0);
     expect("planner_point_list", planner_point_list(plan, 2, 3, pair, 2, NULL, 0) == 8);
+}
+
+/* the winner wins as the left one and as the right one */
+static void expect_winner(const uint16_t *winner, size_t winner_len, const uint16_t *other, size_t other_len)
+{
+    expect("planner_gentler", planner_gentler(winner, winner_len, other, other_len) == 0);
+    expect("planner_gentler", planner_gentler(other, other_len, winner, winner_len) == 1);
+}
+
+/* by length, by the largest component and by dictionary order; on a full tie the left one wins */
+static void expect_gentler(void)
+{
+    const uint16_t settings[5] = {3, 1, 3, 1, 3};
+    const uint16_t high[2] = {65535, 0};
+    const uint16_t low[2] = {65534, 65534};
+
+    expect_winner(settings, 2, settings, 3);
+    expect_winner(high, 2, settings, 3);
+    expect_winner(NULL, 0, settings, 1);
+    expect_winner(low, 2, high, 2);
+    /* (1, 3) and (3, 1) */
+    expect_winner(settings + 1, 2, settings, 2);
+
+    /* (3, 1) twice, at two places and at one; and no components twice */
+    expect("planner_gentler", planner_gentler(settings, 2, settings + 2, 2) == 0);
+    expect("planner_gentler", planner_gentler(settings + 2, 2, settings, 2) == 0);
+    expect("planner_gentler", planner_gentler(settings, 2, settings, 2) == 0);
+    expect("planner_gentler", planner_gentler(NULL, 0, NULL, 0) == 0);
+    expect("planner_gentler", planner_gentler(settings, 0, NULL, 0) == 0);
+}
+
+/* the rows (1, 0) and (1, 1) under plan A: at 7 both (1, 3) and (2, 1) are admissible, and (2, 1) is the gentler */
+static void expect_gentlest(void)
+{
+    const int16_t rows[4] = {1, 0, 1, 1};
+    const uint16_t first[2] = {1, 3};
+    const uint16_t gentlest[2] = {2, 1};
+    uint16_t n = 9;
+    uint16_t z[2] = {9, 9};
+    uint8_t yes = 7;
+
+    expect("planner_check", planner_check(2, 2, rows, 4, 7, first, 2, &yes) == 0 && yes == 1);
+    expect("planner_search_vector", planner_search_vector(2, 2, rows, 4, 7, z, 2, &n) == 0 && n == 7);
+    expect("planner_search_vector", memcmp(z, gentlest, sizeof gentlest) == 0);
+    z[0] = 9;
+    expect("planner_search_smallest", planner_search_smallest(2, 2, rows, 4, 8192, z, 2, &n) == 0 && n == 7);
+    expect("planner_search_smallest", memcmp(z, gentlest, sizeof gentlest) == 0);
+    expect_winner(z, 2, first, 2);
 }
 
 /* the record of (0, 0), (1, 0), (1, 1), row by row and at once, and the bounds from it; the mirrors are 1, 2 and 4 */
@@ -277,6 +326,8 @@ int main(void)
         expect_no_rows(plan);
         expect_tally(plan);
     }
+    expect_gentler();
+    expect_gentlest();
     expect_tally_refused();
     expect_corner_list();
     expect_corners_refused();

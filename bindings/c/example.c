@@ -2,7 +2,8 @@
  * Document 01's printed example through the header: cosine plan C, rows 0, 1, 2, ceiling 10. It prints the plan and the map as the
  * program `plan` does, then a request that is refused: plan 0, row 6, ceiling 3. Next it types the rows one after the other, and
  * prints after each the record and the least modulus worth trying under cosine plan A; a row that is in already is refused. Then
- * come the rows of a list given by two corners, its smallest plan under cosine plan A, and the lenses to cut for it.
+ * come the rows of a list given by two corners, its smallest plan under cosine plan A, the gentler of its vector and another one,
+ * and the lenses to cut for it.
  */
 #include <inttypes.h>
 #include <stdio.h>
@@ -54,6 +55,14 @@ static int list_points(uint16_t n, const uint16_t *z)
     return 0;
 }
 
+/* Of two vectors for the same two axes the gentler one, which is one of the two itself. */
+static void print_gentler(const uint16_t *left, const uint16_t *right)
+{
+    const uint16_t *winner = planner_gentler(left, 2, right, 2) == 0 ? left : right;
+
+    printf("gentler: %" PRIu16 " %" PRIu16 "\n", winner[0], winner[1]);
+}
+
 /* The list of the corners (2, 0) and (0, 1): its rows, its smallest plan under plan A, and the lenses of that plan. */
 static int plan_corners(void)
 {
@@ -75,6 +84,9 @@ static int plan_corners(void)
         printf("(%" PRId16 ", %" PRId16 ")\n", rows[2 * i], rows[2 * i + 1]);
     }
     printf("%" PRIu16 " %" PRIu16 " %" PRIu16 "\n", n, z[0], z[1]);
+
+    /* (1, 3) is admissible there too, and comes first in dictionary order */
+    print_gentler((const uint16_t[]){1, 3}, z);
     return list_points(n, z);
 }
 

@@ -6,6 +6,9 @@
 //! [`Rule::Fourier`] the row is its only one.
 //!
 //! The searches give a plan, [`check`] tries one, and [`residue_map`], [`spread`], [`gather`] and [`point_list`] work with it.
+//! Operators prefer small settings: of the admissible vectors at n the searches give the gentlest, and [`gentler`] hands back the
+//! winner of any two vectors.
+//!
 //! While rows are still being typed, a [`Tally`] is the record of those that are in: [`add_row`] counts one more, and
 //! [`least_modulus`] says from the record alone which moduli are hopeless.
 //!
@@ -270,12 +273,16 @@ pub fn point_list_into(rule: Rule, d: usize, n: u16, z: &[u16], out: &mut [u16])
     })
 }
 
-/// The first admissible vector at n in dictionary order, the first component most significant. Refusals: 1 to 6 and 9.
+/// The gentlest admissible vector at n. Of all with components from 0 to n - 1 it is the one with the least largest component; of
+/// those that share it, the first in dictionary order, the first component most significant. Refusals: 1 to 6 and 9.
 ///
 /// ```
-/// use planner::{search_vector, Refusal, Rule};
+/// use planner::{check, search_vector, Refusal, Rule};
 /// assert_eq!(search_vector(Rule::ExactIntegration, 1, &[6], 5)?.z, [1]);
 /// assert_eq!(search_vector(Rule::ExactIntegration, 1, &[6], 6), Err(Refusal::NothingAdmissible));
+/// // the rows (1, 0) and (1, 1): the vector (1, 3) comes before (2, 1) in dictionary order, but has a 3
+/// assert_eq!(search_vector(Rule::CosineA, 2, &[1, 0, 1, 1], 7)?.z, [2, 1]);
+/// assert_eq!(check(Rule::CosineA, 2, &[1, 0, 1, 1], 7, &[1, 3]), Ok(true));
 /// # Ok::<(), Refusal>(())
 /// ```
 pub fn search_vector(rule: Rule, d: usize, rows: &[i16], n: u16) -> Result<Plan, Refusal> {
@@ -294,8 +301,8 @@ pub fn search_vector_into(rule: Rule, d: usize, rows: &[i16], n: u16, z: &mut [u
     Refusal::told(number).map(|()| found)
 }
 
-/// The smallest modulus from 1 to the ceiling that has an admissible vector, and the first such vector in dictionary order.
-/// Refusals: 1 to 6 and 9. It may take long for long lists: the ceiling bounds the moduli that it tries.
+/// The smallest modulus from 1 to the ceiling that has an admissible vector, and the gentlest one there, which is the one that
+/// [`search_vector`] gives. Refusals: 1 to 6 and 9. It may take long for long lists: the ceiling bounds the moduli that it tries.
 ///
 /// ```
 /// use planner::{residue_map, search_smallest, Plan, Rule};
@@ -327,6 +334,34 @@ pub fn search_smallest_into(rule: Rule, d: usize, rows: &[i16], ceiling: u16, z:
         )
     };
     Refusal::told(number).map(|()| found)
+}
+
+/// The gentler of two vectors, by the order of the searches; the winner is the slice that was lent. The shorter one wins; at one
+/// length the one with the smaller largest component; where these are equal the first in dictionary order; on a full tie the left
+/// one. It takes any two vectors and refuses nothing.
+///
+/// ```
+/// use planner::gentler;
+/// use std::ptr;
+///
+/// assert_eq!(gentler(&[1, 3], &[2, 1]), [2, 1]);
+/// assert_eq!(gentler(&[3, 1], &[1, 3]), [1, 3]);
+/// // the shorter one, however large its numbers are
+/// assert_eq!(gentler(&[0, 0, 0], &[65535, 65535]), [65535, 65535]);
+///
+/// // of two equal ones the left one: the very slice
+/// let (one, other) = ([1, 2], [1, 2]);
+/// assert!(ptr::eq(gentler(&one, &other), &one));
+/// assert!(ptr::eq(gentler(&other, &one), &other));
+/// ```
+pub fn gentler<'a>(left: &'a [u16], right: &'a [u16]) -> &'a [u16] {
+    // SAFETY: the pointers and lengths are those of slices.
+    let number = unsafe { sys::planner_gentler(left.as_ptr(), left.len(), right.as_ptr(), right.len()) };
+    if number == 0 {
+        left
+    } else {
+        right
+    }
 }
 
 /// The record of a whole list, counted at once. Refusals: 1 to 5.
@@ -441,7 +476,7 @@ pub fn least_modulus(rule: Rule, tally: Tally) -> Result<u16, Refusal> {
 /// let rows = corner_list(2, &[2, 0, 0, 1])?;
 /// assert_eq!(rows, [0, 0, 0, 1, 1, 0, 2, 0]);
 /// assert_eq!(is_lower(2, &rows), Ok(true));
-/// assert_eq!(search_smallest(Rule::CosineA, 2, &rows, 100), Ok(Plan { n: 7, z: vec![1, 3] }));
+/// assert_eq!(search_smallest(Rule::CosineA, 2, &rows, 100), Ok(Plan { n: 7, z: vec![2, 1] }));
 ///
 /// // total degree at most 2 on three axes: the corners are the six rows of degree 2
 /// let corners = [2, 0, 0, 0, 2, 0, 0, 0, 2, 1, 1, 0, 1, 0, 1, 0, 1, 1];

@@ -1,6 +1,7 @@
-//! The library's functions as they are. A slice is passed as its pointer and then its length. Each returns the number of the
-//! refusal, 0 for none; then what it was lent is written, and otherwise left as it was. `planner_corner_list` writes the front of
-//! its `out` alone.
+//! The library's functions as they are. A slice is passed as its pointer and then its length. Each but `planner_gentler` returns the
+//! number of the refusal, 0 for none; then what it was lent is written, and otherwise left as it was. `planner_corner_list` writes the
+//! front of its `out` alone. `planner_gentler` refuses and writes nothing: it returns 0 where the left vector wins and 1 where the
+//! right one does.
 //!
 //! What a caller owes: every pointer is aligned and points to as many elements as its length says, where one whose length is 0 may
 //! be null; `yes`, `found`, `m`, `size`, `zero` and `count` are not null and point to one element each; and what may be written
@@ -98,6 +99,8 @@ extern "C" {
         z_len: usize,
         found: *mut u16,
     ) -> u8;
+
+    pub fn planner_gentler(left: *const u16, left_len: usize, right: *const u16, right_len: usize) -> u8;
 
     pub fn planner_tally_list(
         plan: u8,

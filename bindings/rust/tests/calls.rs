@@ -7,7 +7,7 @@ mod random;
 
 use std::collections::{BTreeMap, BTreeSet};
 use std::fmt::Debug;
-use std::ptr::{null, null_mut};
+use std::ptr::{self, null, null_mut};
 use std::slice::from_ref;
 
 use independent::Record;
@@ -284,6 +284,15 @@ fn compare_search(search: Search, c: &Case, places: usize) -> Result<(u16, Vec<u
         assert_eq!(safely(c.plan, |rule| whole(rule, c.d, &c.rows, c.n)), plan, "{told:?}");
     }
     expected
+}
+
+/// The winner of two vectors, by its number and as the very slice that was lent.
+fn compare_gentler<'a>(left: &'a [u16], right: &'a [u16]) -> &'a [u16] {
+    let winner = independent::gentler(left, right);
+    let answer = unsafe { sys::planner_gentler(left.as_ptr(), left.len(), right.as_ptr(), right.len()) };
+    assert_eq!(answer, u8::from(!ptr::eq(winner, left)), "{left:?} {right:?}");
+    assert!(ptr::eq(planner::gentler(left, right), winner), "{left:?} {right:?}");
+    winner
 }
 
 /// What adding a row takes: a list, its record and the row.
@@ -831,6 +840,164 @@ fn searches() {
     }
     for seen in &seen {
         seen.all_of(&[0, 1, 2, 3, 4, 5, 6, 8, 9], 20);
+    }
+}
+
+/// The vector search at moduli up to 8192. The vector of 1, w, w * w and so on with w = 4 * span + 1 is admissible where n is at least
+/// w to the number of axes: no difference of two mirrors has residue 0. So the second planner need not go far.
+#[test]
+fn searches_at_large_moduli() {
+    let mut random = Random::new(21);
+    for turn in 0..500 {
+        let plan = (turn % 5) as u8;
+        let d = 2 + random.below(2);
+        let span = 1 + random.below(4);
+        let count = 1 + random.below(4);
+        let rows = different_rows(plan, count, &vec![span as i64; d], &mut random).concat();
+        let least = (4 * span + 1).pow(d as u32);
+        let any = least + random.below(8193 - least);
+        let n = random.pick(&[least, least + 1, 8191, 8192, any]) as u16;
+        let c = Case { plan, d, rows, n, z: vec![] };
+        assert!(compare_search(Search::Vector, &c, d).is_ok(), "{c:?}");
+    }
+}
+
+/// The search at one n gives the vector that wins against every other admissible one there, in whatever order they come. Often it is
+/// not the first of them in dictionary order.
+#[test]
+fn winners() {
+    let mut random = Random::new(22);
+    let (mut first, mut other, mut none) = (0, 0, 0);
+    for turn in 0..1500 {
+        let rule = Rule::ALL[turn % 5];
+        let d = 2 + random.below(2);
+        let span = random.pick(&[1, 2, 3, 6]);
+        let count = 2 + random.below(6);
+        let rows = different_rows(rule as u8, count, &vec![span; d], &mut random).concat();
+        let Ok(smallest) = planner::search_smallest(rule, d, &rows, [24, 11][d - 2]) else { continue };
+        let n = random.pick(&[smallest.n - 1, smallest.n, smallest.n, smallest.n + 1]).max(1);
+        let vectors = all_vectors(d, n);
+        let admissible = |z: &&[u16]| planner::check(rule, d, &rows, n, z).unwrap();
+        let admissible: Vec<&[u16]> = vectors.iter().map(|z| &z[..]).filter(admissible).collect();
+        let winner = shuffled(1, &admissible, &mut random).into_iter().reduce(compare_gentler);
+        let found = planner::search_vector(rule, d, &rows, n).ok().map(|plan| plan.z);
+        assert_eq!(found.as_deref(), winner, "{rule:?} {rows:?} {n}");
+        match winner {
+            None => none += 1,
+            _ if admissible.first().copied() == winner => first += 1,
+            _ => other += 1,
+        }
+    }
+    assert!(first > 100 && other > 100 && none > 100, "{first} {other} {none}");
+}
+
+/// Tickets whose answer is not the first admissible vector in dictionary order, one for each plan and one over three axes: the rows, n,
+/// the gentlest vector there, and the first in dictionary order.
+#[test]
+fn orders_apart() {
+    type Ticket<'a> = (u8, &'a [i16], u16, &'a [u16], &'a [u16]);
+    let tickets: [Ticket; 6] = [
+        (0, &[0, 2, 1, 3, 3, 0], 4, &[2, 1], &[1, 3]),
+        (1, &[0, 1, 1, 0, 1, 1, 2, 0], 4, &[2, 1], &[1, 3]),
+        (2, &[1, 0, 1, 1], 7, &[2, 1], &[1, 3]),
+        (3, &[1, 0, 1, 2], 5, &[2, 1], &[1, 3]),
+        (4, &[0, 3, 1, 2, 1, 3], 6, &[2, 1], &[1, 3]),
+        (1, &[0, 0, 0, 0, 0, 1, 1, 1, 0], 3, &[1, 1, 1], &[0, 1, 2]),
+    ];
+    for (plan, rows, n, gentlest, first) in tickets {
+        let d = gentlest.len();
+        let c = |n: u16, z: &[u16]| Case::new(plan, d, rows, n, z);
+        for ceiling in [n, n + 1, MOST_MODULUS] {
+            assert_eq!(compare_search(Search::Smallest, &c(ceiling, &[]), d), Ok((n, gentlest.to_vec())), "{rows:?}");
+        }
+        assert_eq!(compare_search(Search::Smallest, &c(n - 1, &[]), d), Err(9), "{rows:?}");
+        assert_eq!(compare_search(Search::Vector, &c(n, &[]), d), Ok((n, gentlest.to_vec())), "{rows:?}");
+        let admissible = all_vectors(d, n).into_iter().find(|z| compare_check(&c(n, z)).unwrap());
+        assert_eq!(admissible.as_deref(), Some(first), "{rows:?}");
+        assert!(ptr::eq(compare_gentler(first, gentlest), gentlest), "{rows:?}");
+    }
+}
+
+/// A vector of numbers below an end.
+fn any_vector(length: usize, end: usize, random: &mut Random) -> Vec<u16> {
+    (0..length).map(|_| random.below(end) as u16).collect()
+}
+
+/// A vector beside another: of any length, of its length, its numbers in another order or with one of them changed, its front, or the
+/// same numbers at another place.
+fn vector_beside(z: &[u16], end: usize, random: &mut Random) -> Vec<u16> {
+    let mut other = z.to_vec();
+    match random.below(6) {
+        0 => {
+            let length = random.below(8);
+            other = any_vector(length, end, random);
+        }
+        1 => other = any_vector(z.len(), end, random),
+        2 => other = shuffled(1, z, random),
+        3 if !z.is_empty() => {
+            let at = random.below(z.len());
+            other[at] = random.pick(&[0, 1, z[at].wrapping_add(1), u16::MAX]);
+        }
+        4 => other.truncate(random.below(z.len() + 1)),
+        _ => {}
+    }
+    other
+}
+
+/// What decides between two vectors: their lengths (0), their largest components (1), dictionary order (2), or nothing (3).
+fn decided_by(left: &[u16], right: &[u16]) -> usize {
+    let differ = [left.len() != right.len(), left.iter().max() != right.iter().max(), left != right];
+    differ.iter().position(|differ| *differ).unwrap_or(3)
+}
+
+/// The gentler of two vectors (document 02, f), of any lengths and numbers: both ways round, against itself and against its own front.
+#[test]
+fn gentler_vectors() {
+    let mut random = Random::new(23);
+    let mut won = [[0; 2]; 4];
+    for turn in 0..20000 {
+        let end = random.pick(&[1, 2, 2, 3, 5, 1000, 65536]);
+        let length = if turn % 500 == 0 { 8192 } else { random.below(8) };
+        let one = any_vector(length, end, &mut random);
+        let other = vector_beside(&one, end, &mut random);
+        for (left, right) in [(&one[..], &other[..]), (&other, &one)] {
+            let right_won = !ptr::eq(compare_gentler(left, right), left);
+            won[decided_by(left, right)][usize::from(right_won)] += 1;
+        }
+        let front = &one[..random.below(length + 1)];
+        assert!(ptr::eq(compare_gentler(&one, &one), &one[..]), "{one:?}");
+        assert!(ptr::eq(compare_gentler(&one, front), front), "{one:?} {front:?}");
+        assert!(ptr::eq(compare_gentler(front, &one), front), "{one:?} {front:?}");
+    }
+    let [length, largest, order, tie] = won;
+    assert!([length, largest, order].iter().flatten().all(|count| *count > 1000), "{won:?}");
+    assert!(tie[0] > 1000 && tie[1] == 0, "{won:?}");
+}
+
+/// Pairs of vectors with the number of the winner, by hand.
+#[test]
+fn gentler_by_hand() {
+    let pairs: [(&[u16], &[u16], u8); 16] = [
+        (&[2, 1], &[1, 3], 0),
+        (&[1, 3], &[2, 1], 1),
+        (&[3, 1], &[1, 3], 1),
+        (&[0, 2, 2], &[2, 0, 0], 0),
+        (&[1, 2, 3], &[1, 3, 2], 0),
+        (&[1, 2], &[1, 2], 0),
+        (&[0, 65535], &[65535, 0], 0),
+        (&[65535, 0], &[65534, 65534], 1),
+        (&[0], &[1], 0),
+        (&[9, 9], &[0, 0, 0], 0),
+        (&[0, 0, 0], &[9, 9], 1),
+        (&[1, 2], &[1, 2, 0], 0),
+        (&[1, 2, 0], &[1, 2], 1),
+        (&[], &[0], 0),
+        (&[0], &[], 1),
+        (&[], &[], 0),
+    ];
+    for (left, right, number) in pairs {
+        let winner = if number == 0 { left } else { right };
+        assert!(ptr::eq(compare_gentler(left, right), winner), "{left:?} {right:?}");
     }
 }
 
@@ -1434,8 +1601,8 @@ fn orders_of_refusals() {
 }
 
 /// The same rows in another order.
-fn shuffled(d: usize, list: &[i16], random: &mut Random) -> Vec<i16> {
-    let mut rows: Vec<&[i16]> = list.chunks(d).collect();
+fn shuffled<T: Copy>(d: usize, list: &[T], random: &mut Random) -> Vec<T> {
+    let mut rows: Vec<&[T]> = list.chunks(d).collect();
     for i in (1..rows.len()).rev() {
         rows.swap(i, random.below(i + 1));
     }
@@ -1666,6 +1833,18 @@ fn null_corners() {
         assert_eq!(sys::planner_is_lower(2, null(), 0, &mut yes), 0);
     }
     assert_eq!(yes, 1);
+}
+
+/// The same of two vectors.
+#[test]
+fn null_vectors() {
+    let z = [0u16];
+    unsafe {
+        assert_eq!(sys::planner_gentler(null(), 0, null(), 0), 0);
+        assert_eq!(sys::planner_gentler(null(), 0, z.as_ptr(), 1), 0);
+        assert_eq!(sys::planner_gentler(z.as_ptr(), 1, null(), 0), 1);
+        assert_eq!(sys::planner_gentler(z.as_ptr(), 0, null(), 0), 0);
+    }
 }
 
 /// What documents 01 and 02 print: the ten trial tickets and the ticket without terms, the lines below them, and the small example of

@@ -1,7 +1,7 @@
 -- Theorems of the exports, over their contracts alone: 0 is returned exactly where nothing is refused; a refused search leaves z and
 -- the place for the modulus as they were, and refused calls about lists leave theirs; and a call has one outcome, refused or not.
 use mathlib.Core.Path.{_≡_, refl, sym, ap, subst, _∙_}
-use mathlib.Core.Logic.{_≢_, _↔_}
+use mathlib.Core.Logic.{_≢_, _↔_, _⊎_, inl, inr, ⊎-elim}
 use mathlib.Core.Bool.{Bool, true, false}
 use mathlib.Core.List.{List}
 use Prim.Native.Nat.{ℕ, zero, suc}
@@ -11,10 +11,12 @@ use lib.ListN.{length}
 use Rattle.rank1.specs.declared.Tally.{Tally}
 use Rattle.rank1.specs.Index.{indexList}
 use Rattle.rank1.specs.Rule.{Admissible}
-use Rattle.rank1.specs.Search.{First, Smallest}
+use Rattle.rank1.specs.Search.{Gentlest, Smallest}
 use Rattle.rank1.specs.Tally.{zeros}
 use Rattle.rank1.specs.Corners.{Lower}
+use Rattle.rank1.specs.Winner.{LeftWins}
 use Rattle.rank1.specs.Refusal.{searchRefusal, lowerRefusal}
+use Rattle.rank1.proofs.WinnerLaws.{one-wins}
 use Rattle.lists.specs.declared.Counted.{Counted}
 use Rattle.lists.specs.declared.Least.{Least}
 use Rattle.lists.specs.declared.RowCount.{RowCount}
@@ -26,10 +28,10 @@ use Rattle.lists.proofs.CornerTheorems.{corner-determined, lower-determined, co
 use Rattle.planner.specs.declared.Verdict.{Verdict}
 use Rattle.planner.specs.declared.Plan.{Plan}
 use Rattle.planner.specs.declared.Plan.the-variants.{Found, Refused}
-use Rattle.planner.specs.Answer.{verdict, refusalNumber, RefusedOr, FirstOrNone, SmallestOrNone, VectorSearch, SmallestSearch}
+use Rattle.planner.specs.Answer.{verdict, refusalNumber, RefusedOr, GentlestOrNone, SmallestOrNone, VectorSearch, SmallestSearch}
 use Rattle.planner.proofs.SearchTheorems.{search-vector-determined, search-smallest-determined, search-vector-keeps, search-smallest-keeps}
 use Rattle.exports.specs.declared.tally.PlannerTally.{PlannerTally}
-use Rattle.exports.specs.Numbers.{Told, refusalIn, CheckTold, modulusOr, PlanTold, places, numbersOr, CountedTold, leastOrKept, LeastTold, countOr, RowsTold, lowerOr, LowerTold}
+use Rattle.exports.specs.Numbers.{Told, refusalIn, CheckTold, modulusOr, PlanTold, places, numbersOr, CountedTold, leastOrKept, LeastTold, countOr, RowsTold, lowerOr, LowerTold, WinnerTold}
 
 -- ---- the check
 -- it returns the number of the condition that applies
@@ -55,9 +57,9 @@ module _ (Answers : Plan → Type 0) (nine : (k : ℕ) → Answers (Refused k) �
   plan-at-zero k p p′ r x e = plan-of k p p′ (x .answer) (x .meets) (sym (x .number) ∙ e) (x .place)
 
 module _ (plan d : ℕ) (xs : List ℤ) (n : ℕ) (before after : List ℕ) (p p′ r : ℕ) where
-  -- 0 of the vector search means the first vector at n, with n in the place
-  pub vector-at-zero : PlanTold (VectorSearch plan d xs n before after) p p′ r → r ≡ 0 → (p′ ≡ n) × First (Admissible plan (indexList d xs)) d n after
-  vector-at-zero = plan-at-zero (FirstOrNone (Admissible plan (indexList d xs)) d n before after) (λ k a. a .0) before after (searchRefusal plan d xs n (length before)) p p′ r
+  -- 0 of the vector search means the gentlest vector at n, with n in the place
+  pub vector-at-zero : PlanTold (VectorSearch plan d xs n before after) p p′ r → r ≡ 0 → (p′ ≡ n) × Gentlest (Admissible plan (indexList d xs)) d n after
+  vector-at-zero = plan-at-zero (GentlestOrNone (Admissible plan (indexList d xs)) d n before after) (λ k a. a .0) before after (searchRefusal plan d xs n (length before)) p p′ r
 
   -- and 0 of the other the smallest plan up to the ceiling n, with its modulus in the place
   pub smallest-at-zero : PlanTold (SmallestSearch plan d xs n before after) p p′ r → r ≡ 0 → Smallest (Admissible plan (indexList d xs)) d n p′ after
@@ -185,3 +187,16 @@ pub lower-told-determined : (d : ℕ) (xs : List ℤ) (p p′ p″ r r′ : ℕ)
 lower-told-determined d xs p p′ p″ r r′ x y =
     let same = told-determined lowerNumber lowerOr xs xs p p′ p″ r r′ (λ a a′ m m′. (lower-determined d xs a a′ m m′, refl)) x y in
     (same .0, same .2)
+
+-- ---- the gentler of two vectors: 0 or 1, and one of them only
+pub winner-determined : (left right : List ℕ) (r r′ : ℕ) → WinnerTold left right r → WinnerTold left right r′ → r ≡ r′
+winner-determined left right r r′ p q =
+    ⊎-elim (λ w. p .left-wins w ∙ sym (q .left-wins w)) (λ w. p .right-wins w ∙ sym (q .right-wins w)) (one-wins left right)
+
+-- 0 says that the left one wins, and 1 that the right one does
+pub winner-is : (left right : List ℕ) (r : ℕ) → WinnerTold left right r → ((r ≡ 0) ↔ LeftWins left right) × ((r ≡ 1) ↔ (LeftWins left right → ⊥))
+winner-is left right r p = (((λ e. at-zero e (one-wins left right)), p .left-wins), ((λ e w. omega (arith, p .left-wins w)), p .right-wins))
+  where
+    at-zero : r ≡ 0 → LeftWins left right ⊎ (LeftWins left right → ⊥) → LeftWins left right
+    at-zero e (inl w) = w
+    at-zero e (inr w) = absurd (omega (arith, p .right-wins w))

@@ -1,12 +1,14 @@
 -- The answers of the calls as numbers: what an export returns, and what the places lent for what it finds hold afterwards: yes or no, the
--- modulus, the record, the number of rows.
+-- modulus, the record, the number of rows. And which of two vectors wins.
 use mathlib.Core.Path.{_≡_}
 use mathlib.Core.Bool.{not}
+use mathlib.Core.List.{List}
 use Prim.Native.Nat.{ℕ}
 use lib.Dec.{eqb}
 use Rattle.exports.specs.declared.tally.PlannerTally.{PlannerTally}
 use Rattle.rank1.specs.declared.Tally.{Tally}
 use Rattle.rank1.specs.Tally.{zeros}
+use Rattle.rank1.specs.Winner.{LeftWins}
 use Rattle.lists.specs.declared.Counted.{Counted}
 use Rattle.lists.specs.declared.Counted.the-variants as counted
 use Rattle.lists.specs.declared.Least.{Least}
@@ -104,3 +106,9 @@ lowerOr before (lowness.Refused k) = before
 
 abbrev pub LowerTold : (Lowness → Type 0) → ℕ → ℕ → ℕ → Type 0
 LowerTold = Told lowerNumber lowerOr
+
+-- ---- the gentler of two vectors (document 02, f)
+-- 0 where the left one wins, and else 1
+pub record WinnerTold (left right : List ℕ) (returned : ℕ) : Type 0 where
+  pub left-wins : LeftWins left right → returned ≡ 0
+  pub right-wins : (LeftWins left right → ⊥) → returned ≡ 1

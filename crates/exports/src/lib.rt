@@ -1,13 +1,13 @@
-// The planner's calls for programs in C and Rust to link (include/planner.h has them for C). Every export returns the number of
-// the refusal, 0 for none. What a call finds beside that, yes or no or the modulus, goes to a lent place, which keeps its content
-// where the call is refused. The calls about lists alone stand in tally.rt and corners.rt.
+// The planner's calls for programs in C and Rust to link (include/planner.h has them for C). Every export but planner_gentler, which
+// refuses nothing, returns the number of the refusal, 0 for none. What a call finds beside that, yes or no or the modulus, goes to a
+// lent place, which keeps its content where the call is refused. The calls about lists alone stand in tally.rt and corners.rt.
 
 mod corners;
 mod tally;
 
 ghost use mathlib.Core.Path.{_≡_};
 ghost use Rattle.planner.specs.Answer.{checkAnswer, ResidueMapCall, SpreadCall, GatherCall, PointListCall, refusalNumber, VectorSearch, SmallestSearch};
-ghost use Rattle.exports.specs.Numbers.{CheckTold, modulusOr, PlanTold};
+ghost use Rattle.exports.specs.Numbers.{CheckTold, modulusOr, PlanTold, WinnerTold};
 
 // Whether the pair n, z meets the rule of the plan for the rows: `yes` then holds 1 or 0.
 #[no_mangle]
@@ -100,7 +100,7 @@ fn tell_plan(answer: planner::Plan, found: &mut u16) -> u8
     0
 }
 
-// The first admissible vector at n in dictionary order: it then stands in z, and n in `found`.
+// The gentlest admissible vector at n: it then stands in z, and n in `found`.
 #[no_mangle]
 pub extern "C" fn planner_search_vector(
     plan: u8,
@@ -128,4 +128,15 @@ pub extern "C" fn planner_search_smallest(
     ensures { λ r. ⌜ PlanTold (SmallestSearch plan d (now (rows .entry)) ceiling (now (z .entry)) (now (z .exit))) (now (found .entry)) (now (found .exit)) r ⌝ }
 {
     tell_plan(planner::search_smallest(plan, d, rows, ceiling, z), found)
+}
+
+// The gentler of two vectors: 0 where the left one wins, 1 where the right one does. A slice cannot be handed back to C.
+#[no_mangle]
+pub extern "C" fn planner_gentler(left: &[u16], right: &[u16]) -> u8
+    ensures { λ r. ⌜ WinnerTold (now (left .entry)) (now (right .entry)) r ⌝ }
+{
+    if planner::left_wins(left, right) {
+        return 0;
+    }
+    1
 }

@@ -40,4 +40,4 @@ module _ (plan d : ℕ) (xs : List ℤ) (n : ℕ) (before after : List ℕ) (non
   pub smallest-from-bound : (m : ℕ) → SmallestSearch plan d xs n before after (Found m) → least ≤ m
   smallest-from-bound m s =
       let p = smallest-answer plan d xs n before after (Found m) none s in
-      bound-fits plan d (indexList d xs) m (map pos after) (valid-rows plan d xs (valid .list)) (p .low) (p .first .admissible)
+      bound-fits plan d (indexList d xs) m (map pos after) (valid-rows plan d xs (valid .list)) (p .low) (p .gentlest .admissible)

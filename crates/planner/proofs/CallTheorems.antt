@@ -1,11 +1,12 @@
 -- Theorems of the calls but the searches, over what the calls promise (specs/Answer.antt). Beside each stands the sentence of
 -- document 00, 01 or 02 that it meets.
 use mathlib.Core.Path.{_≡_, refl, sym, _∙_, ap}
-use mathlib.Core.Logic.{_↔_, _≢_}
+use mathlib.Core.Logic.{_↔_, _⊎_, _≢_, inl, inr, ⊎-elim}
 use mathlib.Core.Bool.{true}
 use mathlib.Core.List.{List, [], map, List·Memᴰ}
 use Prim.Native.Nat.{ℕ, _+_, _*_, _-_, _%_, _<_, _≤_}
 use native.Mathlib.Omega.{arith}
+use denote.Ref.{RefT, now}
 use lib.IntN.{ℤ, pos}
 use lib.ListN.{length, getD}
 use Rattle.rank1.specs.Tests.{every, upTo}
@@ -17,6 +18,7 @@ use Rattle.rank1.specs.Sums.{in32, copies, residueMap, sumAt, spreadSums, gathe
 use Rattle.rank1.specs.Points.{coordinate, lineCount, pointLines, pointList}
 use Rattle.rank1.specs.declared.TentCase.{TentCase}
 use Rattle.rank1.specs.Tent.{Meets, numerator}
+use Rattle.rank1.specs.Search.{Gentler}
 use Rattle.rank1.specs.Refusal.{checkRefusal, mapRefusal, spreadRefusal, gatherRefusal, pointRefusal}
 use Rattle.rank1.proofs.UpTo.{length-map-upTo}
 use Rattle.rank1.proofs.IndexLaws.{rows-length}
@@ -27,9 +29,10 @@ use Rattle.rank1.proofs.SumLaws.{weighted, map-residue, map-copies, spread-tota
 use Rattle.rank1.proofs.GatherLaws.{gather-spread, gather-passes, reads-terms}
 use Rattle.rank1.proofs.PointLaws.{lines-whole, coordinate-twin, omitting, omitted}
 use Rattle.rank1.proofs.TentLaws.{coordinate-case}
+use Rattle.rank1.proofs.WinnerLaws.{shorter-wins, longer-loses, gentler-wins, rougher-loses, equal-wins, one-wins}
 use Rattle.planner.specs.declared.Verdict.{Verdict}
 use Rattle.planner.specs.declared.Verdict.the-variants as answer
-use Rattle.planner.specs.Answer.{checkAnswer, written, Answered, ResidueMapCall, SpreadCall, GatherCall, PointListCall}
+use Rattle.planner.specs.Answer.{checkAnswer, written, Answered, ResidueMapCall, SpreadCall, GatherCall, PointListCall, GentlerCall}
 use Rattle.planner.proofs.CallLaws.{written-kept, written-result, determined, verdict-yes, verdict-no, verdict-refused}
 use Rattle.planner.proofs.refusals.HandedLaws.{SpreadHanded, spread-clear, gather-answers, reads-number, point-clear}
 use Rattle.planner.proofs.points.PointSteps.{points-length, points-at}
@@ -187,3 +190,31 @@ module _ (plan d n : ℕ) (z old out : List ℕ) (told : PointListCall plan d n 
   -- "Fourier users see their old list" (document 02, d): all n lines
   pub point-list-whole : plan < 2 → out ≡ pointLines plan n z (upTo n)
   point-list-whole l = lines-written ∙ ap (λ (t : ℕ). pointLines plan n z (upTo t)) (lines-whole plan n l)
+
+-- ---- the gentler of two vectors (document 02, f): the answer is one of the two lent slices, the one that document 02 names
+module _ (left right answer : RefT (List ℕ)) (call : GentlerCall left right answer) where
+  pub gentler-either : (answer ≡ left) ⊎ (answer ≡ right)
+  gentler-either = ⊎-elim (λ w. inl (call .left-wins w)) (λ w. inr (call .right-wins w)) (one-wins (now left) (now right))
+
+  -- "the shorter wins if lengths differ"
+  pub shorter-left : length (now left) < length (now right) → answer ≡ left
+  shorter-left l = call .left-wins (shorter-wins (now left) (now right) l)
+
+  pub shorter-right : length (now right) < length (now left) → answer ≡ right
+  shorter-right l = call .right-wins (longer-loses (now left) (now right) l)
+
+  -- at one length the gentler
+  pub gentler-left : length (now left) ≡ length (now right) → Gentler (now left) (now right) → answer ≡ left
+  gentler-left e g = call .left-wins (gentler-wins (now left) (now right) e g)
+
+  pub gentler-right : length (now left) ≡ length (now right) → Gentler (now right) (now left) → answer ≡ right
+  gentler-right e g = call .right-wins (rougher-loses (now left) (now right) e g)
+
+  -- "the left one on a full tie"
+  pub tie-left : now left ≡ now right → answer ≡ left
+  tie-left e = call .left-wins (equal-wins (now left) (now right) e)
+
+-- two answers are one
+pub gentler-determined : (left right a a′ : RefT (List ℕ)) → GentlerCall left right a → GentlerCall left right a′ → a ≡ a′
+gentler-determined left right a a′ p q =
+    ⊎-elim (λ w. p .left-wins w ∙ sym (q .left-wins w)) (λ w. p .right-wins w ∙ sym (q .right-wins w)) (one-wins (now left) (now right))

@@ -12,13 +12,13 @@ use lib.ListN.{length, replicate}
 use Rattle.rank1.specs.Tests.{every}
 use Rattle.rank1.specs.Index.{rowCount, indexList}
 use Rattle.rank1.specs.Rule.{Rule, Admissible}
-use Rattle.rank1.specs.Search.{InRange, First, Smallest}
+use Rattle.rank1.specs.Search.{InRange, Gentlest, Smallest}
 use Rattle.rank1.specs.Sums.{residueMap, spreadSums, gatheredTerms, gathers}
 use Rattle.rank1.specs.Valid.{ValidModulus}
 use Rattle.rank1.specs.Refusal.{firstOf, badPlan, badMapPlan, badModulus, badPlaces, inadmissible, listConditions, pairConditions, tableConditions, searchConditions, checkRefusal, mapRefusal, spreadRefusal, gatherRefusal, searchRefusal}
 use Rattle.rank1.proofs.RefusalLaws.{firstOf-none, firstOf-none-append}
 use Rattle.rank1.proofs.ValidLaws.{plan-clear, map-plan-clear, modulus-clear, places-clear, rule-clear, pair-none}
-use Rattle.rank1.proofs.NoRows.{no-rows, no-rows-valid, no-rows-admissible, zeroVector, no-rows-first, no-rows-smallest, no-rows-map, no-rows-sums, no-rows-terms}
+use Rattle.rank1.proofs.NoRows.{no-rows, no-rows-valid, no-rows-admissible, zeroVector, no-rows-gentlest, no-rows-smallest, no-rows-map, no-rows-sums, no-rows-terms}
 use Rattle.planner.specs.declared.Verdict.the-variants as answer
 use Rattle.planner.specs.declared.Plan.{Plan}
 use Rattle.planner.specs.declared.Plan.the-variants.{Found}
@@ -59,7 +59,7 @@ module _ (plan d n : ℕ) (plans : plan ≤ 4) (axes : (1 ≤ d) × (d ≤ 6)) (
     vector-no-rows told =
         search-vector-determined plan d [] n before after (zeroVector d) r (Found n) told
         (zeros-found n
-        (refl, of-run (λ rule. First rule d n (zeroVector d)) (no-rows-first plan d plans n (modulus .low))))
+        (refl, of-run (λ rule. Gentlest rule d n (zeroVector d)) (no-rows-gentlest plan d plans n (modulus .low))))
 
     pub smallest-no-rows : SmallestSearch plan d [] n before after r → Same r (Found 1) after (zeroVector d)
     smallest-no-rows told =

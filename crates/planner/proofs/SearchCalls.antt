@@ -10,28 +10,28 @@ use Rattle.planner.specs.declared.Plan.{Plan}
 use Rattle.planner.specs.declared.Plan.the-variants.{Found, Refused}
 use Rattle.rank1.specs.Index.{indexList}
 use Rattle.rank1.specs.Rule.{Rule, Admissible}
-use Rattle.rank1.specs.Search.{First, NoPlan}
+use Rattle.rank1.specs.Search.{Gentlest, NoPlan}
 use Rattle.rank1.specs.Valid.{ValidList, ValidModulus}
 use Rattle.rank1.specs.Refusal.{firstOf, badPlan, badModulus, badPlaces, listConditions, tallyRefusal, searchRefusal}
 use Rattle.rank1.proofs.RefusalLaws.{firstOf-none, firstOf-none-append}
 use Rattle.rank1.proofs.ValidLaws.{plan-clear, places-clear, valid-list, valid-modulus}
 use Rattle.refusal.proofs.InputLaws.{list-stops, list-passes}
-use Rattle.planner.specs.Answer.{RefusedOr, FirstOrNone, SmallestOrNone, VectorSearch, SmallestSearch}
+use Rattle.planner.specs.Answer.{RefusedOr, GentlestOrNone, SmallestOrNone, VectorSearch, SmallestSearch}
 use Rattle.planner.specs.Stage.{PlanBetween, SearchBetween}
 
 -- ---- the moduli from low to high
 module _ (rule : Rule) (d n : ℕ) (before after : List ℕ) where
   -- n alone
-  between-first : (r : Plan) → PlanBetween rule d n n before after r → FirstOrNone rule d n before after r
-  between-first (Found m) p =
+  between-gentlest : (r : Plan) → PlanBetween rule d n n before after r → GentlestOrNone rule d n before after r
+  between-gentlest (Found m) p =
       let e : m ≡ n = omega (arith, p .0, p .1) in
-      (e, subst (λ (i : ℕ). First rule d i after) e (p .2))
-  between-first (Refused k) p = (p .0, p .1, p .2 n (omega arith) (omega arith))
+      (e, subst (λ (i : ℕ). Gentlest rule d i after) e (p .2))
+  between-gentlest (Refused k) p = (p .0, p .1, p .2 n (omega arith) (omega arith))
 
   -- those from 1 to the ceiling n
   between-smallest : (r : Plan) → PlanBetween rule d 1 n before after r → SmallestOrNone rule d n before after r
   unfolding NoPlan
-  between-smallest (Found m) p = record { low = p .0; high = p .1; first = p .2; smaller-fail = p .3 }
+  between-smallest (Found m) p = record { low = p .0; high = p .1; gentlest = p .2; smaller-fail = p .3 }
   between-smallest (Refused k) p = p
 
 -- ---- refused, or answered
@@ -101,7 +101,7 @@ module _ (plan d : ℕ) (xs : List ℤ) (low high : ℕ) (before : List ℕ) (k 
 module _ (plan d : ℕ) (xs : List ℤ) (n : ℕ) (before after : List ℕ) (r : Plan) where
   -- n alone
   pub vector-search : SearchBetween plan d xs n n before after r → VectorSearch plan d xs n before after r
-  vector-search = refused-map before after r (searchRefusal plan d xs n (length before)) (between-first (Admissible plan (indexList d xs)) d n before after r)
+  vector-search = refused-map before after r (searchRefusal plan d xs n (length before)) (between-gentlest (Admissible plan (indexList d xs)) d n before after r)
 
   -- those from 1 to the ceiling n
   pub smallest-search : SearchBetween plan d xs 1 n before after r → SmallestSearch plan d xs n before after r

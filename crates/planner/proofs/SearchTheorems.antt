@@ -12,23 +12,24 @@ use Rattle.planner.specs.declared.Plan.{Plan}
 use Rattle.planner.specs.declared.Plan.the-variants.{Found, Refused}
 use Rattle.rank1.specs.Index.{indexList}
 use Rattle.rank1.specs.Rule.{Rule, Admissible}
-use Rattle.rank1.specs.Search.{Before, First, Hopeless, NoPlan}
+use Rattle.rank1.specs.Search.{Gentler, Gentlest, Hopeless, NoPlan}
 use Rattle.rank1.specs.Refusal.{firstOf, badPlaces, searchConditions, searchRefusal}
 use Rattle.rank1.proofs.RefusalLaws.{firstOf-none, firstOf-none-append}
 use Rattle.rank1.proofs.ValidLaws.{places-clear}
+use Rattle.rank1.proofs.GentleOrder.{gentler-strict}
 use Rattle.rank1.proofs.SearchLaws.{first-unique, hopeless-first, smallest-unique, smallest-plan}
-use Rattle.planner.specs.Answer.{RefusedOr, FirstOrNone, SmallestOrNone, VectorSearch, SmallestSearch}
+use Rattle.planner.specs.Answer.{RefusedOr, GentlestOrNone, SmallestOrNone, VectorSearch, SmallestSearch}
 
 -- ---- one answer: what is returned, and what is left in the lent places
 abbrev pub Same : Plan → Plan → List ℕ → List ℕ → Type 0
 Same r r′ after after′ = (r ≡ r′) × (after ≡ after′)
 
 module _ (rule : Rule) (d n : ℕ) (before after after′ : List ℕ) where
-  first-determined : (r r′ : Plan) → FirstOrNone rule d n before after r → FirstOrNone rule d n before after′ r′ → Same r r′ after after′
-  first-determined (Found m) (Found m′) p q = (ap Found (p .0 ∙ sym (q .0)), first-unique rule d n n after after′ (p .1) (q .1))
-  first-determined (Found m) (Refused k) p q = absurd (hopeless-first rule d n (q .2) after (p .1))
-  first-determined (Refused k) (Found m) p q = absurd (hopeless-first rule d n (p .2) after′ (q .1))
-  first-determined (Refused k) (Refused k′) p q = (ap Refused (p .0 ∙ sym (q .0)), p .1 ∙ sym (q .1))
+  gentlest-determined : (r r′ : Plan) → GentlestOrNone rule d n before after r → GentlestOrNone rule d n before after′ r′ → Same r r′ after after′
+  gentlest-determined (Found m) (Found m′) p q = (ap Found (p .0 ∙ sym (q .0)), first-unique rule d Gentler gentler-strict n n after after′ (p .1) (q .1))
+  gentlest-determined (Found m) (Refused k) p q = absurd (hopeless-first rule d n (q .2) after (p .1))
+  gentlest-determined (Refused k) (Found m) p q = absurd (hopeless-first rule d n (p .2) after′ (q .1))
+  gentlest-determined (Refused k) (Refused k′) p q = (ap Refused (p .0 ∙ sym (q .0)), p .1 ∙ sym (q .1))
 
   -- n is the ceiling
   smallest-determined : (r r′ : Plan) → SmallestOrNone rule d n before after r → SmallestOrNone rule d n before after′ r′ → Same r r′ after after′
@@ -48,7 +49,7 @@ module _ (plan d : ℕ) (xs : List ℤ) (n : ℕ) (before after after′ : List 
   pub search-vector-determined : VectorSearch plan d xs n before after r → VectorSearch plan d xs n before after′ r′ → Same r r′ after after′
   search-vector-determined =
       refused-determined (searchRefusal plan d xs n (length before)) before after after′ r r′
-      (first-determined (Admissible plan (indexList d xs)) d n before after after′ r r′)
+      (gentlest-determined (Admissible plan (indexList d xs)) d n before after after′ r r′)
 
   pub search-smallest-determined : SmallestSearch plan d xs n before after r → SmallestSearch plan d xs n before after′ r′ → Same r r′ after after′
   search-smallest-determined =
@@ -79,18 +80,18 @@ SomePlan rule d ceiling = (n : ℕ) × (1 ≤ n) × (n ≤ ceiling) × SomeVecto
 found-refused : (n k : ℕ) → Found n ≡ Refused k → ⊥
 found-refused n k e = absurd (let z : _≡_ {A = ℕ} 0 1 = cc in omega arith)
 
-first-some : (rule : Rule) (d n : ℕ) (z : List ℕ) → First rule d n z → SomeVector rule d n
-first-some rule d n z f = (map pos z, length-map z pos ∙ f .ranged .size, f .admissible)
+gentlest-some : (rule : Rule) (d n : ℕ) (z : List ℕ) → Gentlest rule d n z → SomeVector rule d n
+gentlest-some rule d n z f = (map pos z, length-map z pos ∙ f .ranged .size, f .admissible)
 
 module _ (rule : Rule) (d n : ℕ) (before after : List ℕ) where
-  first-nine : (r : Plan) → FirstOrNone rule d n before after r → (r ≡ Refused 9) ↔ Hopeless rule d n
-  first-nine (Found m) p = ((λ e. absurd (found-refused m 9 e)), (λ h. absurd (hopeless-first rule d n h after (p .1))))
-  first-nine (Refused k) p = ((λ e. p .2), (λ h. ap Refused (p .0)))
+  gentlest-nine : (r : Plan) → GentlestOrNone rule d n before after r → (r ≡ Refused 9) ↔ Hopeless rule d n
+  gentlest-nine (Found m) p = ((λ e. absurd (found-refused m 9 e)), (λ h. absurd (hopeless-first rule d n h after (p .1))))
+  gentlest-nine (Refused k) p = ((λ e. p .2), (λ h. ap Refused (p .0)))
 
-  first-found : (r : Plan) → FirstOrNone rule d n before after r → (r ≡ Found n) ↔ SomeVector rule d n
+  gentlest-found : (r : Plan) → GentlestOrNone rule d n before after r → (r ≡ Found n) ↔ SomeVector rule d n
   unfolding Hopeless
-  first-found (Found m) p = ((λ e. first-some rule d n after (p .1)), (λ s. ap Found (p .0)))
-  first-found (Refused k) p = ((λ e. absurd (found-refused n k (sym e))), (λ s. absurd (p .2 (s .0) (s .1) (s .2))))
+  gentlest-found (Found m) p = ((λ e. gentlest-some rule d n after (p .1)), (λ s. ap Found (p .0)))
+  gentlest-found (Refused k) p = ((λ e. absurd (found-refused n k (sym e))), (λ s. absurd (p .2 (s .0) (s .1) (s .2))))
 
   smallest-nine : (r : Plan) → SmallestOrNone rule d n before after r → (r ≡ Refused 9) ↔ NoPlan rule d n
   smallest-nine (Found m) p = ((λ e. absurd (found-refused m 9 e)), (λ h. absurd (smallest-plan rule d n m after p h)))
@@ -98,7 +99,7 @@ module _ (rule : Rule) (d n : ℕ) (before after : List ℕ) where
 
   smallest-found : (r : Plan) → SmallestOrNone rule d n before after r → ((m : ℕ) × (r ≡ Found m)) ↔ SomePlan rule d n
   unfolding Hopeless NoPlan
-  smallest-found (Found m) p = ((λ e. (m, p .low, p .high, first-some rule d m after (p .first))), (λ s. (m, refl)))
+  smallest-found (Found m) p = ((λ e. (m, p .low, p .high, gentlest-some rule d m after (p .gentlest))), (λ s. (m, refl)))
   smallest-found (Refused k) p =
       ((λ e. absurd (found-refused (e .0) k (sym (e .1)))), (λ s. absurd (p .2 (s .0) (s .1) (s .2) (s .3 .0) (s .3 .1) (s .3 .2))))
 
@@ -108,7 +109,7 @@ answer-of before after r (suc i) e a = absurd (omega arith)
 
 -- the contracts, where no condition from 1 to 8 applies
 module _ (plan d : ℕ) (xs : List ℤ) (n : ℕ) (before after : List ℕ) (r : Plan) (none : searchRefusal plan d xs n (length before) ≡ 0) where
-  vector-answer : VectorSearch plan d xs n before after r → FirstOrNone (Admissible plan (indexList d xs)) d n before after r
+  vector-answer : VectorSearch plan d xs n before after r → GentlestOrNone (Admissible plan (indexList d xs)) d n before after r
   vector-answer = answer-of before after r (searchRefusal plan d xs n (length before)) none
 
   pub smallest-answer : SmallestSearch plan d xs n before after r → SmallestOrNone (Admissible plan (indexList d xs)) d n before after r
@@ -116,10 +117,10 @@ module _ (plan d : ℕ) (xs : List ℤ) (n : ℕ) (before after : List ℕ) (r :
 
   -- at n
   pub vector-refused-nine : VectorSearch plan d xs n before after r → (r ≡ Refused 9) ↔ Hopeless (Admissible plan (indexList d xs)) d n
-  vector-refused-nine s = first-nine (Admissible plan (indexList d xs)) d n before after r (vector-answer s)
+  vector-refused-nine s = gentlest-nine (Admissible plan (indexList d xs)) d n before after r (vector-answer s)
 
   pub vector-found : VectorSearch plan d xs n before after r → (r ≡ Found n) ↔ SomeVector (Admissible plan (indexList d xs)) d n
-  vector-found s = first-found (Admissible plan (indexList d xs)) d n before after r (vector-answer s)
+  vector-found s = gentlest-found (Admissible plan (indexList d xs)) d n before after r (vector-answer s)
 
   -- up to the ceiling n
   pub refused-nine : SmallestSearch plan d xs n before after r → (r ≡ Refused 9) ↔ NoPlan (Admissible plan (indexList d xs)) d n
@@ -143,8 +144,9 @@ pub record Gives (plan d : ℕ) (ks : List (List ℤ)) (ceiling : ℕ) (z : List
   pub meets : Admissible plan ks n (map pos z)
   -- Every smaller modulus fails with every vector of d whole numbers of any sign and size.
   pub smaller-fail : (m : ℕ) → 1 ≤ m → m < n → (y : List ℤ) → length y ≡ d → Admissible plan ks m y → ⊥
-  -- At n, every other vector with components from 0 to n-1 that meets the rule comes after z in dictionary order."
-  pub others-after : (y : List ℕ) → length y ≡ d → ((j : ℕ) → j < d → getD y j 0 < n) → Admissible plan ks n (map pos y) → y ≢ z → Before z y
+  -- At n, every other vector with components from 0 to n-1 that meets the rule comes after z in" the order of document 02, f, which
+  -- replaces dictionary order: "the one with the least largest component now wins, then dictionary order"
+  pub others-after : (y : List ℕ) → length y ≡ d → ((j : ℕ) → j < d → getD y j 0 < n) → Admissible plan ks n (map pos y) → y ≢ z → Gentler z y
 
 pub record DemandThree (plan d : ℕ) (ks : List (List ℤ)) (ceiling : ℕ) (z : List ℕ) (r : Plan) : Type 0 where
   -- "the smallest plan is refused with 9 exactly when no modulus from 1 to N meets the plan's rule with any vector of d whole numbers,
@@ -159,11 +161,11 @@ smallest-gives plan d ks ceiling before z (Found n) p other = record {
   answer = refl;
   low = p .low;
   high = p .high;
-  size = p .first .ranged .size;
-  below = p .first .ranged .below;
-  meets = p .first .admissible;
+  size = p .gentlest .ranged .size;
+  below = p .gentlest .ranged .below;
+  meets = p .gentlest .admissible;
   smaller-fail = p .smaller-fail;
-  others-after = λ y e b. p .first .others-after y (record { size = e; below = b });
+  others-after = λ y e b. p .gentlest .others-after y (record { size = e; below = b });
 }
 smallest-gives plan d ks ceiling before z (Refused k) p other = absurd (other (ap Refused (p .0)))
 

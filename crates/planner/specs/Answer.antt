@@ -1,11 +1,12 @@
 -- What the public calls answer, in the terms of document 01, and what a lent place holds afterwards. The promise of each call has one
 -- name, with the call's arguments: `checkAnswer`, `ResidueMapCall`, `SpreadCall`, `GatherCall`, `PointListCall`, `VectorSearch`,
--- `SmallestSearch`.
+-- `SmallestSearch`, `GentlerCall`.
 use mathlib.Core.Path.{_≡_}
 use mathlib.Core.Bool.{Bool, true, false}
 use mathlib.Core.List.{List, map}
 use Prim.Native.Nat.{ℕ, zero, suc}
 use lib.IntN.{ℤ, pos}
+use denote.Ref.{RefT, now}
 use lib.ListN.{length}
 use Rattle.planner.specs.declared.Verdict.{Verdict}
 use Rattle.planner.specs.declared.Verdict.the-variants as verdicts
@@ -15,9 +16,10 @@ use Rattle.rank1.specs.Tests.{every}
 use Rattle.rank1.specs.Index.{indexList}
 use Rattle.rank1.specs.Rule.{Rule, Admissible}
 use Rattle.rank1.specs.RuleTest.{admissible}
-use Rattle.rank1.specs.Search.{First, Hopeless, Smallest, NoPlan}
+use Rattle.rank1.specs.Search.{Gentlest, Hopeless, Smallest, NoPlan}
 use Rattle.rank1.specs.Sums.{in32, residueMap, spreadSums, gatheredTerms}
 use Rattle.rank1.specs.Points.{pointList}
+use Rattle.rank1.specs.Winner.{LeftWins}
 use Rattle.rank1.specs.Refusal.{checkRefusal, mapRefusal, spreadRefusal, gatherRefusal, pointRefusal, searchRefusal}
 
 -- ---- the check
@@ -73,10 +75,10 @@ abbrev pub RefusedOr : ℕ → List ℕ → List ℕ → Plan → Type 0 → Typ
 RefusedOr zero before after answer Answers = Answers
 RefusedOr (suc k) before after answer Answers = (answer ≡ found.Refused (suc k)) × (after ≡ before)
 
--- where conditions 1 to 8 do not apply: the first vector at n, or 9 where n fails with every vector
-abbrev pub FirstOrNone : Rule → ℕ → ℕ → List ℕ → List ℕ → Plan → Type 0
-FirstOrNone rule d n before after (found.Found m) = (m ≡ n) × First rule d n after
-FirstOrNone rule d n before after (found.Refused k) = (k ≡ 9) × (after ≡ before) × Hopeless rule d n
+-- where conditions 1 to 8 do not apply: the gentlest vector at n, or 9 where n fails with every vector
+abbrev pub GentlestOrNone : Rule → ℕ → ℕ → List ℕ → List ℕ → Plan → Type 0
+GentlestOrNone rule d n before after (found.Found m) = (m ≡ n) × Gentlest rule d n after
+GentlestOrNone rule d n before after (found.Refused k) = (k ≡ 9) × (after ≡ before) × Hopeless rule d n
 
 -- where conditions 1 to 8 do not apply: the smallest plan up to the ceiling, or 9 where there is none
 abbrev pub SmallestOrNone : Rule → ℕ → ℕ → List ℕ → List ℕ → Plan → Type 0
@@ -86,9 +88,15 @@ SmallestOrNone rule d ceiling before after (found.Refused k) = (k ≡ 9) × (aft
 -- the vector search at n
 abbrev pub VectorSearch : ℕ → ℕ → List ℤ → ℕ → List ℕ → List ℕ → Plan → Type 0
 VectorSearch plan d xs n before after answer =
-    RefusedOr (searchRefusal plan d xs n (length before)) before after answer (FirstOrNone (Admissible plan (indexList d xs)) d n before after answer)
+    RefusedOr (searchRefusal plan d xs n (length before)) before after answer (GentlestOrNone (Admissible plan (indexList d xs)) d n before after answer)
 
 -- the smallest plan up to the ceiling
 abbrev pub SmallestSearch : ℕ → ℕ → List ℤ → ℕ → List ℕ → List ℕ → Plan → Type 0
 SmallestSearch plan d xs ceiling before after answer =
     RefusedOr (searchRefusal plan d xs ceiling (length before)) before after answer (SmallestOrNone (Admissible plan (indexList d xs)) d ceiling before after answer)
+
+-- ---- the gentler of two lent vectors (document 02, f): the winner is handed back as the lent numbers themselves, where they lie, and
+-- not a copy of them
+pub record GentlerCall (left right answer : RefT (List ℕ)) : Type 0 where
+  pub left-wins : LeftWins (now left) (now right) → answer ≡ left
+  pub right-wins : (LeftWins (now left) (now right) → ⊥) → answer ≡ right

@@ -15,7 +15,8 @@ use Rattle.rank1.specs.Residue.{residueAt}
 use Rattle.rank1.specs.Index.{indexList}
 use Rattle.rank1.specs.Rule.{Rule, Admissible}
 use Rattle.rank1.specs.Tally.{recount}
-use Rattle.rank1.specs.Search.{Before, InRange, First, FirstBelow, Hopeless}
+use Rattle.rank1.specs.Search.{Before, InRange, Gentlest, Hopeless}
+use Rattle.rank1.specs.Below.{FirstBelow}
 use Rattle.rank1.specs.Valid.{ValidList, ValidModulus}
 use Rattle.rank1.specs.Axes.{Agree}
 use Rattle.rank1.specs.Differences.{Sound}
@@ -131,11 +132,12 @@ pub record Prefixed (s : Search) (at : ℕ) (z products owners : List ℕ) : Typ
   pub entries : Products (s .n) (take at z) (s .top) products
   pub owner-room : s .n ≤ length owners
 
--- the first at components of z are fixed: they are below the number of values that are tried
+-- the first at components of z are fixed: they are below the number of values that are tried. No first vector begins below the start
 pub record Fixed (s : Search) (T : ListTables) (at : ℕ) (z products owners : List ℕ) : Type 0 where
   pub tabled : Tabled (s .plan) (s .d) (s .top) (s .tail) T
   pub prefix : Prefixed s at z products owners
   pub few-values : s .values ≤ s .n
+  pub begins : (y : List ℕ) → FirstBelow (ruleOf (s .plan) (s .d) T) (s .d) (s .n) (s .values) y → s .start ≤ getD y 0 0
   pub below : (j : ℕ) → j < at → getD z j 0 < s .values
 
 -- section i of the sums, to i = k: the residues of the parts before axis i of the differences that end behind axis i
@@ -165,10 +167,11 @@ pub record KeptBefore (at : ℕ) (old new : Work) : Type 0 where
   pub owner-size : length (new .owners) ≡ length (old .owners)
 
 -- ---- the values of component at that are tried
--- no value below r: r is 0, or the component of an earlier axis with which axis at can change places
-pub data Lowest (swaps : List ℕ) (at : ℕ) (z : List ℕ) (r : ℕ) : Type 0 where
-  nothing : r ≡ 0 → Lowest swaps at z r
-  raised : (i : ℕ) → i < at → getD swaps (i * axes + at) 0 ≢ 0 → r ≡ getD z i 0 → Lowest swaps at z r
+-- no value below r: r is 0, the start of the first component, or the component of an earlier axis with which axis at can change places
+pub data Lowest (start : ℕ) (swaps : List ℕ) (at : ℕ) (z : List ℕ) (r : ℕ) : Type 0 where
+  nothing : r ≡ 0 → Lowest start swaps at z r
+  started : at ≡ 0 → r ≡ start → Lowest start swaps at z r
+  raised : (i : ℕ) → i < at → getD swaps (i * axes + at) 0 ≢ 0 → r ≡ getD z i 0 → Lowest start swaps at z r
 
 -- r is low, or x where there is a mark
 pub data Raised (low mark x r : ℕ) : Type 0 where
@@ -270,14 +273,33 @@ pub record Roomy (d : ℕ) (M : ModulusTables) (w : Work) : Type 0 where
   pub struck : length (w .struck) ≡ suc (axes * largestModulus)
   pub owners : length (w .owners) ≡ largestModulus
 
--- x is the first vector at n, or n fails with every vector
+-- ---- the rounds at one modulus
+-- the same search with the values below a bound, and a start for the first component
+abbrev pub below : ℕ → ℕ → Search → Search
+below bound start s = record { plan = s .plan; d = s .d; n = s .n; values = bound; start = start; top = s .top; tail = s .tail; sieved = s .sieved }
+
+-- what the later rounds ask: all tables, and in z the first vector with components from 0 to n - 1 in dictionary order
+pub record Lowerable (s : Search) (T : ListTables) (M : ModulusTables) (w : Work) (best : List ℕ) : Type 0 where
+  pub tabled : Tabled (s .plan) (s .d) (s .top) (s .tail) T
+  pub modulus : ValidModulus (s .n)
+  pub solutions : SolutionsOf (s .n) (M .solutions) (M .starts) (M .steps)
+  pub roomy : Roomy (s .d) M w
+  pub first : FirstBelow (ruleOf (s .plan) (s .d) T) (s .d) (s .n) (s .n) (w .z)
+  pub place : length best ≡ s .d
+
+-- what they give: the gentlest vector, and tables that serve the next modulus
+pub record Lowered (rule : Rule) (d n : ℕ) (M : ModulusTables) (w : Work) (best : List ℕ) : Type 0 where
+  pub gentlest : Gentlest rule d n best
+  pub roomy : Roomy d M w
+
+-- x is the gentlest vector at n, or n fails with every vector
 pub record Decided (rule : Rule) (d n : ℕ) (x : List ℕ) (r : Bool) : Type 0 where
-  pub found : r ≡ true → First rule d n x
+  pub found : r ≡ true → Gentlest rule d n x
   pub none : r ≡ false → Hopeless rule d n
 
--- the moduli from low to high, upward: n is the first that does not fail and x its first vector; 0 where all fail
+-- the moduli from low to high, upward: n is the first that does not fail and x its gentlest vector; 0 where all fail
 pub record Ascended (rule : Rule) (d low high : ℕ) (x : List ℕ) (n : ℕ) : Type 0 where
-  pub found : (n ≡ 0 → ⊥) → First rule d n x
+  pub found : (n ≡ 0 → ⊥) → Gentlest rule d n x
   pub from-low : (n ≡ 0 → ⊥) → low ≤ n
   pub to-high : n ≤ high
   pub smaller-fail : (n ≡ 0 → ⊥) → (m : ℕ) → low ≤ m → m < n → Hopeless rule d m
@@ -298,7 +320,7 @@ pub record Searchable (plan d : ℕ) (rows : List ℤ) (low high : ℕ) (z : Lis
 
 -- what the search of the moduli from start to end answers
 abbrev pub PlanBetween : Rule → ℕ → ℕ → ℕ → List ℕ → List ℕ → Plan → Type 0
-PlanBetween rule d start end before after (answer.Found n) = (start ≤ n) × (n ≤ end) × First rule d n after × ((m : ℕ) → start ≤ m → m < n → Hopeless rule d m)
+PlanBetween rule d start end before after (answer.Found n) = (start ≤ n) × (n ≤ end) × Gentlest rule d n after × ((m : ℕ) → start ≤ m → m < n → Hopeless rule d m)
 PlanBetween rule d start end before after (answer.Refused k) = (k ≡ 9) × (after ≡ before) × ((m : ℕ) → start ≤ m → m ≤ end → Hopeless rule d m)
 
 -- the same behind the conditions 1 to 8 of a search, with `end` for the modulus

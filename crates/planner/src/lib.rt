@@ -1,5 +1,6 @@
-// The planner's calls: check, residue map, spread, gather, point list and the two searches (document 01). Every public call takes any
-// arguments, refuses wrong ones by the numbers of document 01's table, and then leaves what it was lent as it was.
+// The planner's calls: check, residue map, spread, gather, point list and the two searches (document 01), and the gentler of two vectors
+// (document 02, f). Every public call takes any arguments, refuses wrong ones by the numbers of document 01's table, and then leaves
+// what it was lent as it was.
 
 mod axes;
 mod differences;
@@ -13,6 +14,7 @@ mod moduli;
 mod points;
 mod products;
 mod refusals;
+mod rounds;
 mod rows;
 mod rule;
 mod runs;
@@ -22,13 +24,16 @@ mod sizes;
 mod sums;
 mod table;
 mod tent;
+mod vectors;
 mod widths;
 
 use crate::sizes::PRODUCT_ROOM;
 use rank1::Tally;
 ghost use mathlib.Core.Path.{_≡_};
 ghost use Prim.Native.Nat.{_≤_};
-ghost use Rattle.planner.specs.Answer.{checkAnswer, ResidueMapCall, SpreadCall, GatherCall, PointListCall, refusalNumber, VectorSearch, SmallestSearch};
+ghost use Rattle.rank1.specs.Tests.{Decides};
+ghost use Rattle.rank1.specs.Winner.{LeftWins};
+ghost use Rattle.planner.specs.Answer.{checkAnswer, ResidueMapCall, SpreadCall, GatherCall, PointListCall, refusalNumber, VectorSearch, SmallestSearch, GentlerCall};
 ghost use Rattle.planner.specs.Stage.{Tallied, SearchBetween};
 
 // What the check answers.
@@ -170,16 +175,36 @@ fn search_between(plan: u8, d: usize, rows: &[i16], low: u16, high: u16, z: &mut
     }
 }
 
-// The first admissible vector at n in dictionary order.
+// The gentlest admissible vector at n.
 pub fn search_vector(plan: u8, d: usize, rows: &[i16], n: u16, z: &mut [u16]) -> Plan
     ensures { λ r. ⌜ VectorSearch plan d (now (rows .entry)) n (now (z .entry)) (now (z .exit)) r ⌝ }
 {
     search_between(plan, d, rows, n, n, z)
 }
 
-// The smallest plan: the smallest modulus up to the ceiling that has an admissible vector, and its first vector.
+// The smallest plan: the smallest modulus up to the ceiling that has an admissible vector, and the gentlest one there.
 pub fn search_smallest(plan: u8, d: usize, rows: &[i16], ceiling: u16, z: &mut [u16]) -> Plan
     ensures { λ r. ⌜ SmallestSearch plan d (now (rows .entry)) ceiling (now (z .entry)) (now (z .exit)) r ⌝ }
 {
     search_between(plan, d, rows, 1, ceiling, z)
+}
+
+// Whether the left one of two vectors wins: the shorter one does, at one length the gentler one, on a full tie the left one.
+pub fn left_wins(left: &[u16], right: &[u16]) -> bool
+    ensures { λ r. ⌜ Decides r (LeftWins (now (left .entry)) (now (right .entry))) ⌝ }
+{
+    if left.len() != right.len() {
+        return left.len() < right.len();
+    }
+    !vectors::is_gentler(right, left)
+}
+
+// The gentler of two lent vectors: the winner is handed back as the lent numbers themselves.
+pub fn gentler<'a>(left: &'a [u16], right: &'a [u16]) -> &'a [u16]
+    ensures { λ r. ⌜ GentlerCall (left .entry) (right .entry) r ⌝ }
+{
+    if left_wins(left, right) {
+        return left;
+    }
+    right
 }

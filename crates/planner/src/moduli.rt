@@ -5,9 +5,8 @@ use crate::Plan;
 use crate::axes::set_swaps;
 use crate::levels::set_levels;
 use crate::listing::set_differences;
-use crate::search::Search;
-use crate::search::complete;
-use crate::sieve::set_modulus;
+use crate::rounds::Task;
+use crate::rounds::gentlest_vector;
 use crate::sizes::AXES;
 use crate::sizes::LARGEST_MODULUS;
 use crate::sizes::LASTS;
@@ -15,6 +14,7 @@ use crate::sizes::LEVEL_ROOM;
 use crate::sizes::PRODUCT_ROOM;
 use crate::sizes::ROOM;
 use crate::sizes::SOLUTION_ROOM;
+use crate::vectors::copy;
 use lists::Least;
 use lists::least_modulus;
 use rank1::Tally;
@@ -25,78 +25,10 @@ ghost use Rattle.rank1.specs.Index.{indexList};
 ghost use Rattle.rank1.specs.Rule.{Admissible};
 ghost use Rattle.rank1.specs.Tally.{recount, leastModulus};
 ghost use Rattle.rank1.specs.Refusal.{leastRefusal};
-ghost use Rattle.rank1.specs.Valid.{ValidModulus};
 ghost use Rattle.planner.specs.Sizes.{largestModulus};
-ghost use Rattle.planner.specs.Stage.{listTables, modulusTables, work, ruleOf, Tabled, Roomy, Decided, Ascended, PlanBetween, Searchable};
+ghost use Rattle.planner.specs.Stage.{listTables, modulusTables, work, ruleOf, Tabled, Roomy, Ascended, PlanBetween, Searchable};
 
-// What the search of a list is about at every modulus: the plan, the number of axes, the largest size of a component of a row or of
-// a difference, the largest last component of a difference, and whether no difference was turned away.
-pub(crate) struct Task {
-    pub(crate) plan: u8,
-    pub(crate) d: usize,
-    pub(crate) top: usize,
-    pub(crate) tail: usize,
-    pub(crate) whole: bool,
-}
-
-// The first vector at n, or n fails with every vector. All n values are tried; rows that end early are left to the sieve where no
-// difference was turned away and every last component has its solutions.
-fn first_vector(
-    task: Task,
-    n: u16,
-    rows: &[i16],
-    levels: &[i16],
-    sizes: &[usize],
-    swaps: &[u8],
-    flips: &[u8],
-    components: &[i16],
-    bounds: &[u16],
-    solutions: &mut [u16],
-    starts: &mut [usize],
-    steps: &mut [u16],
-    z: &mut [u16],
-    sums: &mut [u16],
-    products: &mut [u16],
-    struck: &mut [u8],
-    owners: &mut [u16],
-) -> bool
-    requires { ⌜ Tabled (task .plan) (task .d) (task .top) (task .tail) (listTables (now rows) (now levels) (now sizes) (now swaps) (now flips) (now components) (now bounds)) ⌝ }
-    requires { ⌜ ValidModulus n × Roomy (task .d) (modulusTables (now solutions) (now starts) (now steps)) (work (now z) (now sums) (now products) (now struck) (now owners)) ⌝ }
-    ensures { λ r. ⌜ Decided (ruleOf (task .plan) (task .d) (listTables (now (rows .entry)) (now (levels .entry)) (now (sizes .entry)) (now (swaps .entry)) (now (flips .entry)) (now (components .entry)) (now (bounds .entry)))) (task .d) n (now (z .exit)) r ⌝ }
-    ensures { λ _. ⌜ Roomy (task .d) (modulusTables (now (solutions .exit)) (now (starts .exit)) (now (steps .exit))) (work (now (z .exit)) (now (sums .exit)) (now (products .exit)) (now (struck .exit)) (now (owners .exit))) ⌝ }
-{
-    let solved = set_modulus(n, task.d, task.tail, bounds, solutions, starts, steps);
-    let s = Search {
-        plan: task.plan,
-        d: task.d,
-        n,
-        values: n,
-        top: task.top,
-        tail: task.tail,
-        sieved: task.whole & solved,
-    };
-    complete(
-        s,
-        0,
-        rows,
-        levels,
-        sizes,
-        swaps,
-        flips,
-        components,
-        bounds,
-        solutions,
-        starts,
-        steps,
-        z,
-        sums,
-        products,
-        struck,
-        owners,
-    )
-}
-
-// Runs the moduli from low to high: the first that does not fail, with its first vector in z; 0 where all fail.
+// Runs the moduli from low to high: the first that does not fail, with its gentlest vector in `best`; 0 where all fail.
 fn first_modulus(
     task: Task,
     low: u16,
@@ -116,14 +48,15 @@ fn first_modulus(
     products: &mut [u16],
     struck: &mut [u8],
     owners: &mut [u16],
+    best: &mut [u16],
 ) -> u16
     requires { ⌜ Tabled (task .plan) (task .d) (task .top) (task .tail) (listTables (now rows) (now levels) (now sizes) (now swaps) (now flips) (now components) (now bounds)) ⌝ }
-    requires { ⌜ (1 ≤ low) × (high ≤ largestModulus) × Roomy (task .d) (modulusTables (now solutions) (now starts) (now steps)) (work (now z) (now sums) (now products) (now struck) (now owners)) ⌝ }
-    ensures { λ r. ⌜ Ascended (ruleOf (task .plan) (task .d) (listTables (now (rows .entry)) (now (levels .entry)) (now (sizes .entry)) (now (swaps .entry)) (now (flips .entry)) (now (components .entry)) (now (bounds .entry)))) (task .d) low high (now (z .exit)) r ⌝ }
+    requires { ⌜ (1 ≤ low) × (high ≤ largestModulus) × (length (now best) ≡ task .d) × Roomy (task .d) (modulusTables (now solutions) (now starts) (now steps)) (work (now z) (now sums) (now products) (now struck) (now owners)) ⌝ }
+    ensures { λ r. ⌜ Ascended (ruleOf (task .plan) (task .d) (listTables (now (rows .entry)) (now (levels .entry)) (now (sizes .entry)) (now (swaps .entry)) (now (flips .entry)) (now (components .entry)) (now (bounds .entry)))) (task .d) low high (now (best .exit)) r ⌝ }
 {
     let mut n = low;
     while n <= high {
-        if first_vector(
+        if gentlest_vector(
             task,
             n,
             rows,
@@ -141,6 +74,7 @@ fn first_modulus(
             products,
             struck,
             owners,
+            best,
         ) {
             return n;
         }
@@ -161,15 +95,17 @@ fn run_moduli(
     flips: &[u8],
     components: &[i16],
     bounds: &[u16],
-    z: &mut [u16],
+    best: &mut [u16],
 ) -> u16
     requires { ⌜ Tabled (task .plan) (task .d) (task .top) (task .tail) (listTables (now rows) (now levels) (now sizes) (now swaps) (now flips) (now components) (now bounds)) ⌝ }
-    requires { ⌜ (1 ≤ low) × (high ≤ largestModulus) × (length (now z) ≡ task .d) ⌝ }
-    ensures { λ r. ⌜ Ascended (ruleOf (task .plan) (task .d) (listTables (now (rows .entry)) (now (levels .entry)) (now (sizes .entry)) (now (swaps .entry)) (now (flips .entry)) (now (components .entry)) (now (bounds .entry)))) (task .d) low high (now (z .exit)) r ⌝ }
+    requires { ⌜ (1 ≤ low) × (high ≤ largestModulus) × (length (now best) ≡ task .d) ⌝ }
+    ensures { λ r. ⌜ Ascended (ruleOf (task .plan) (task .d) (listTables (now (rows .entry)) (now (levels .entry)) (now (sizes .entry)) (now (swaps .entry)) (now (flips .entry)) (now (components .entry)) (now (bounds .entry)))) (task .d) low high (now (best .exit)) r ⌝ }
 {
+    let d = task.d;
     let mut solutions = [0u16; SOLUTION_ROOM];
     let mut starts = [0usize; LASTS];
     let mut steps = [0u16; LASTS];
+    let mut z = [0u16; AXES];
     let mut sums = [0u16; AXES * ROOM];
     let mut products = [0u16; PRODUCT_ROOM];
     let mut struck = [0u8; AXES * LARGEST_MODULUS + 1];
@@ -188,22 +124,13 @@ fn run_moduli(
         &mut solutions,
         &mut starts,
         &mut steps,
-        z,
+        &mut z[..d],
         &mut sums,
         &mut products,
         &mut struck,
         &mut owners,
+        best,
     )
-}
-
-// Copies from into to.
-fn copy(to: &mut [u16], from: &[u16])
-    requires { ⌜ length (now to) ≡ length (now from) ⌝ }
-    ensures { λ _. ⌜ now (to .exit) ≡ now (from .entry) ⌝ }
-{
-    for i in 0..to.len() {
-        to[i] = from[i];
-    }
 }
 
 // The first plan among the moduli from low to high for a valid list, whose tables are made here. The vector is built in an array of

@@ -7,12 +7,13 @@
 // | counting: the tally's bound | moduli::start_of | bound-hopeless (all-counted, rest-run) |
 // | rows that end early break the rule | ends_hold | prune-whole (ends-decided) |
 // | scaling: a first component is 0 or divides n | cannot_lead | first-component (lead-passed) |
+// | rounds: the first component does not fall | lowest, rounds.rt | descent-starts (low-passed) |
 // | interchangeable axes: components rise | lowest, marks of axes.rt | swap-first (low-passed) |
 // | sign changes: no component above n / 2 | value_end, marks of flips.rt | flip-first, differences-flip (high-passed) |
 // | differences: no difference of a pair kept apart has residue 0 | sieve_at, sieve.rt | struck-out (forbidden-none) |
 //
 // The last vector is checked whole, so what the tables leave out costs time and no answer. Scaling holds only where all n values
-// of a component are tried; the other prunes hold with fewer values too.
+// of a component are tried, in the first round of a modulus (rounds.rt); the other prunes hold with fewer values too.
 
 use crate::levels::level_at;
 use crate::products::set_axis;
@@ -32,13 +33,15 @@ ghost use Rattle.planner.specs.Sizes.{axes, largestModulus};
 ghost use Rattle.planner.specs.Stage.{Listed, Prefixed, EndsHold, Raised, Lowest, ValueEnd, NextFree, CannotLead, Siftable, Sifted, Summable, SumsAdded, Triable, Tried, listTables, modulusTables, work, ruleOf, Stage, KeptBefore, Completed};
 
 // What a search at one modulus is about; it goes down the recursion by value: the plan, the number of axes, the modulus, how many
-// values of a component are tried, the largest size of a component of a row or of a difference, the largest last component of a
-// difference, and whether every difference is struck (then the rows that end early need no test of their own).
+// values of a component are tried, the value at which the first component starts, the largest size of a component of a row or of a
+// difference, the largest last component of a difference, and whether every difference is struck (then the rows that end early need no
+// test of their own).
 pub(crate) struct Search {
     pub(crate) plan: u8,
     pub(crate) d: usize,
     pub(crate) n: u16,
     pub(crate) values: u16,
+    pub(crate) start: u16,
     pub(crate) top: usize,
     pub(crate) tail: usize,
     pub(crate) sieved: bool,
@@ -54,16 +57,17 @@ fn raised(low: u16, mark: u8, x: u16) -> u16
     if low < x { x } else { low }
 }
 
-// The lowest value of component at: it is not below that of an earlier axis with which its axis can change places.
-fn lowest(at: usize, swaps: &[u8], z: &[u16]) -> u16
+// The lowest value of component at. The first component starts where it is told to; a later one is not below that of an earlier axis
+// with which its axis can change places.
+fn lowest(start: u16, at: usize, swaps: &[u8], z: &[u16]) -> u16
     requires { ⌜ (at < axes) × (length (now swaps) ≡ axes * axes) × (at ≤ length (now z)) ⌝ }
-    ensures { λ r. ⌜ Lowest (now (swaps .entry)) at (now (z .entry)) r ⌝ }
+    ensures { λ r. ⌜ Lowest start (now (swaps .entry)) at (now (z .entry)) r ⌝ }
 {
     let mut low = 0;
     for i in 0..at {
         low = raised(low, swaps[i * AXES + at], z[i]);
     }
-    low
+    if at == 0 { start } else { low }
 }
 
 // Where the values of component at end: behind n / 2 where the sign of its axis can change.
@@ -263,8 +267,9 @@ pub(crate) fn complete(
         struck,
     );
     let base = at * LARGEST_MODULUS;
+    let low = lowest(s.start, at, swaps, z);
     let end = value_end(s.n, s.values, at, flips);
-    let mut v = next_free(base, lowest(at, swaps, z), end, struck);
+    let mut v = next_free(base, low, end, struck);
     if end <= v {
         return false;
     }

@@ -13,7 +13,7 @@ use lib.ListN.{length, getD, length-map, List·getD-map}
 use Rattle.rank1.specs.Residue.{residue, dot, residueAt}
 use Rattle.rank1.specs.Index.{mirrored}
 use Rattle.rank1.specs.Rule.{Rule, Admissible}
-use Rattle.rank1.specs.Search.{FirstBelow}
+use Rattle.rank1.specs.Below.{FirstBelow}
 use Rattle.rank1.specs.Axes.{flip}
 use Rattle.rank1.specs.Differences.{Apart, Flips}
 use Rattle.rank1.proofs.Whole.{neg-mul}

@@ -7,10 +7,13 @@ pub mod DotLaws
 pub mod Distinct
 pub mod Headed
 pub mod Order
+pub mod GentleOrder
 pub mod Coprime
 pub mod MirrorLaws
 pub mod RuleLaws
 pub mod SearchLaws
+pub mod GentleLaws
+pub mod WinnerLaws
 pub mod TestLaws
 pub mod RuleTestLaws
 pub mod IndexLaws

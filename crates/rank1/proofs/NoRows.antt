@@ -1,7 +1,8 @@
 -- The list of no rows (document 02, a). It is valid on 1 to 6 axes; every pair is admissible for it under each of the five plans; so
--- at any modulus the zero vector is the first one, and the smallest plan is n = 1 with the zero vector. Its map and its terms are
+-- at any modulus the zero vector is the gentlest one, and the smallest plan is n = 1 with the zero vector. Its map and its terms are
 -- empty, and its sums are n zeros. No definition names this list: all of this is what they say of it.
 use mathlib.Core.Path.{_≡_, refl, sym, _∙_, ap, subst}
+use mathlib.Core.Logic.{⊎-elim}
 use mathlib.Core.List.{List, [], _∷_, map, List·Memᴰ·not-nil}
 use Prim.Native.Nat.{ℕ, zero, suc, _≤_}
 use native.Mathlib.Nat.{zero-div, zero-mod}
@@ -11,11 +12,12 @@ use lib.ListN.{replicate, length-replicate, getD-replicate}
 use lib.Seq.{ext-getD}
 use Rattle.rank1.specs.Index.{rowsOf, indexList}
 use Rattle.rank1.specs.Rule.{Integrates, Reconstructs, PlanA, PlanB, PlanC, Admissible}
-use Rattle.rank1.specs.Search.{InRange, First, Smallest}
+use Rattle.rank1.specs.Search.{Gentler, largest, InRange, Gentlest, Smallest}
 use Rattle.rank1.specs.Sums.{residueMap, spreadSums, gatheredTerms}
 use Rattle.rank1.specs.Refusal.{firstOf, badAxes, badLength, badComponent, equalRows, listConditions}
 use Rattle.rank1.specs.Valid.{Distinct}
 use Rattle.rank1.proofs.Order.{zeros-least}
+use Rattle.rank1.proofs.GentleOrder.{gentler-strict}
 use Rattle.rank1.proofs.RefusalLaws.{firstOf-skip}
 use Rattle.rank1.proofs.SearchLaws.{first-of}
 use Rattle.rank1.proofs.UpTo.{length-map-upTo, getD-upTo}
@@ -48,10 +50,21 @@ no-rows-admissible (suc (suc (suc (suc (suc p))))) n z l = absurd (omega arith)
 abbrev pub zeroVector : ℕ → List ℕ
 zeroVector d = replicate d 0
 
+-- none has a smaller largest component, and none of largest component 0 comes before it
+zeros-largest : (d : ℕ) → largest (zeroVector d) ≡ 0
+zeros-largest zero = refl
+zeros-largest (suc d) = omega (arith, zeros-largest d)
+
+zeros-gentlest : (d : ℕ) (y : List ℕ) → Gentler y (zeroVector d) → ⊥
+unfolding Gentler
+zeros-gentlest d y g = ⊎-elim (λ l. omega (arith, zeros-largest d)) (λ p. zeros-least d y (p .1)) g
+
 module _ (plan d : ℕ) (plans : plan ≤ 4) where
-  -- nothing comes before the zero vector
-  pub no-rows-first : (n : ℕ) → 1 ≤ n → First (Admissible plan []) d n (zeroVector d)
-  no-rows-first n low = first-of (Admissible plan []) d n n (zeroVector d) ranged (no-rows-admissible plan n (map pos (zeroVector d)) plans) (λ y r a b. zeros-least d y b)
+  -- nothing is gentler than the zero vector
+  pub no-rows-gentlest : (n : ℕ) → 1 ≤ n → Gentlest (Admissible plan []) d n (zeroVector d)
+  no-rows-gentlest n low =
+      first-of (Admissible plan []) d Gentler gentler-strict n n (zeroVector d) ranged (no-rows-admissible plan n (map pos (zeroVector d)) plans)
+      (λ y r a. zeros-gentlest d y)
     where
       ranged : InRange n d (zeroVector d)
       ranged = record { size = length-replicate d 0; below = λ j l. omega (arith, getD-replicate {A = ℕ} d j 0 0 l) }
@@ -61,7 +74,7 @@ module _ (plan d : ℕ) (plans : plan ≤ 4) where
   no-rows-smallest ceiling high = record {
     low = omega arith;
     high = high;
-    first = no-rows-first 1 (omega arith);
+    gentlest = no-rows-gentlest 1 (omega arith);
     smaller-fail = λ m l h. absurd (omega arith);
   }
 

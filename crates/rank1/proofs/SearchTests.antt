@@ -1,8 +1,8 @@
--- Tests that antt computes for what the searches look for: a hopeless modulus, the first vector at a modulus, the smallest
--- plan, and that there is none. Each tries every vector in range, and where it holds, the definition does, for all inputs. Only
--- the trial tickets rest on these.
-use mathlib.Core.Path.{refl, subst}
-use mathlib.Core.Logic.{_↔_, ⊎-elim}
+-- Tests that antt computes for what the searches look for: a hopeless modulus, the first vector at a modulus in an order, the
+-- smallest plan, and that there is none. Each tries every vector in range, and where it holds, the definition does, for all inputs.
+-- Only the trial tickets rest on these.
+use mathlib.Core.Path.{_≡_, refl, subst}
+use mathlib.Core.Logic.{_↔_, _⊎_, ⊎-elim}
 use mathlib.Core.Bool.{Bool, true, false, not, _&&_, _||_}
 use mathlib.Core.List.{List, [], _∷_, map, List·Memᴰ, List·Memᴰ·head, List·Memᴰ·tail}
 use Prim.Native.Nat.{ℕ, zero, suc, _+_, _<_, _≤_}
@@ -13,9 +13,10 @@ use Rattle.rank1.specs.Tests.{every, upFrom, upTo}
 use Rattle.rank1.specs.Index.{headed}
 use Rattle.rank1.specs.Rule.{Rule, Admissible}
 use Rattle.rank1.specs.RuleTest.{admissible}
-use Rattle.rank1.specs.Search.{Before, InRange, Hopeless, First, Smallest, NoPlan}
+use Rattle.rank1.specs.Search.{Order, Before, largest, Gentler, InRange, Hopeless, First, Smallest, NoPlan}
 use Rattle.rank1.specs.Refusal.{badVector}
-use Rattle.rank1.proofs.Order.{compared}
+use Rattle.rank1.proofs.Order.{compared, Strict, before-strict}
+use Rattle.rank1.proofs.GentleOrder.{gentler-strict}
 use Rattle.rank1.proofs.Headed.{headed-in}
 use Rattle.rank1.proofs.RuleLaws.{Reduces, plan-reduces}
 use Rattle.rank1.proofs.SearchLaws.{first-of, hopeless-ranged}
@@ -46,11 +47,15 @@ vectors-in n (suc d) (a ∷ z) r =
     headed-in (upTo n) (vectors n d) a z (upTo-in n a (r .below 0 (omega arith)))
     (vectors-in n d z (record { size = omega (arith, r .size); below = λ j l. r .below (suc j) (omega arith) }))
 
--- ---- the order
+-- ---- the orders
+-- a is smaller than b, or they are equal and the rest says so
+abbrev smallerOr : ℕ → ℕ → Bool → Bool
+smallerOr a b rest = ltb a b || (eqb a b && rest)
+
 abbrev precedes : List ℕ → List ℕ → Bool
 precedes [] z = false
 precedes (a ∷ y) [] = false
-precedes (a ∷ y) (b ∷ z) = ltb a b || (eqb a b && precedes y z)
+precedes (a ∷ y) (b ∷ z) = smallerOr a b (precedes y z)
 
 left-holds : (a b : Bool) → T a → T (a || b)
 left-holds true b t = tt
@@ -60,15 +65,34 @@ right-holds : (a b : Bool) → T b → T (a || b)
 right-holds true b t = tt
 right-holds false b t = t
 
-before-precedes : (y z : List ℕ) → Before y z → T (precedes y z)
+smaller-or : (a c : ℕ) (rest : Bool) {P : Type 0} → (P → T rest) → (a < c) ⊎ ((a ≡ c) × P) → T (smallerOr a c rest)
+smaller-or a c rest holds h =
+    ⊎-elim
+    (λ l. left-holds (ltb a c) (eqb a c && rest) (lt→ltb a c l))
+    (λ p. right-holds (ltb a c) (eqb a c && rest) (joined (eqb a c) rest (subst (λ (x : ℕ). T (eqb a x)) (p .0) (eqb-refl a)) (holds (p .1))))
+    h
+
+pub before-precedes : (y z : List ℕ) → Before y z → T (precedes y z)
 unfolding Before
 before-precedes [] z b = b
 before-precedes (a ∷ y) [] b = b
-before-precedes (a ∷ y) (c ∷ z) b =
-    ⊎-elim
-    (λ l. left-holds (ltb a c) (eqb a c && precedes y z) (lt→ltb a c l))
-    (λ p. right-holds (ltb a c) (eqb a c && precedes y z) (joined (eqb a c) (precedes y z) (subst (λ (x : ℕ). T (eqb a x)) (p .0) (eqb-refl a)) (before-precedes y z (p .1))))
-    b
+before-precedes (a ∷ y) (c ∷ z) b = smaller-or a c (precedes y z) (before-precedes y z) b
+
+-- an order with a test that holds wherever the order does
+pub record Ordered (order : Order) : Type 0 where
+  pub strict : Strict order
+  pub test : List ℕ → List ℕ → Bool
+  pub holds : (y z : List ℕ) → order y z → T (test y z)
+
+abbrev pub dictionary : Ordered Before
+dictionary = record { strict = before-strict; test = precedes; holds = before-precedes }
+
+pub gentler-holds : (y z : List ℕ) → Gentler y z → T (smallerOr (largest y) (largest z) (precedes y z))
+unfolding Gentler
+gentler-holds y z g = smaller-or (largest y) (largest z) (precedes y z) (before-precedes y z) g
+
+abbrev pub gentle : Ordered Gentler
+gentle = record { strict = gentler-strict; test = λ y z. smallerOr (largest y) (largest z) (precedes y z); holds = gentler-holds }
 
 -- ---- a rule with a test that decides it
 pub record Tested (rule : Rule) : Type 0 where
@@ -110,29 +134,30 @@ module _ {rule : Rule} (tested : Tested rule) (d : ℕ) where
   no-plan-holds c t = λ n l h. none-holds (suc c) t n l (omega arith)
 
   -- z is in range and passes, and no vector before it does
-  abbrev later : ℕ → List ℕ → List ℕ → Bool
-  later n z y = not (passes n y && precedes y z)
+  module _ {order : Order} (ordered : Ordered order) where
+    abbrev later : ℕ → List ℕ → List ℕ → Bool
+    later n z y = not (passes n y && ordered .test y z)
 
-  abbrev pub firstTest : ℕ → List ℕ → Bool
-  firstTest n z = eqb (badVector d n z) 0 && (passes n z && every (later n z) (vectors n d))
+    abbrev pub firstTest : ℕ → List ℕ → Bool
+    firstTest n z = eqb (badVector d n z) 0 && (passes n z && every (later n z) (vectors n d))
 
-  pub first-holds : (n : ℕ) (z : List ℕ) → T (firstTest n z) → First rule d n z
-  first-holds n z t =
-      let u = both (eqb (badVector d n z) 0) (passes n z && every (later n z) (vectors n d)) t in
-      let v = both (passes n z) (every (later n z) (vectors n d)) (u .1) in
-      first-of rule d n n z
-      (valid-vector d n z .0 (eqb→eq (badVector d n z) 0 (u .0)))
-      (tested .decides n z .0 (v .0))
-      (λ y r a b. T-not (passes n y && precedes y z) (every-at (later n z) (vectors n d) (v .1) y (vectors-in n d y r))
-      (joined (passes n y) (precedes y z) (tested .decides n y .1 a) (before-precedes y z b)))
+    pub first-holds : (n : ℕ) (z : List ℕ) → T (firstTest n z) → First rule d order n n z
+    first-holds n z t =
+        let u = both (eqb (badVector d n z) 0) (passes n z && every (later n z) (vectors n d)) t in
+        let v = both (passes n z) (every (later n z) (vectors n d)) (u .1) in
+        first-of rule d order (ordered .strict) n n z
+        (valid-vector d n z .0 (eqb→eq (badVector d n z) 0 (u .0)))
+        (tested .decides n z .0 (v .0))
+        (λ y r a b. T-not (passes n y && ordered .test y z) (every-at (later n z) (vectors n d) (v .1) y (vectors-in n d y r))
+        (joined (passes n y) (ordered .test y z) (tested .decides n y .1 a) (ordered .holds y z b)))
 
-  -- z is first at n, and every smaller modulus is hopeless
+  -- z is the gentlest at n, and every smaller modulus is hopeless
   abbrev pub smallestTest : ℕ → List ℕ → Bool
-  smallestTest n z = leb 1 n && (firstTest n z && noneBelow n)
+  smallestTest n z = leb 1 n && (firstTest gentle n z && noneBelow n)
 
   -- for every ceiling that lets n in
   pub smallest-holds : (n : ℕ) (z : List ℕ) → T (smallestTest n z) → (ceiling : ℕ) → n ≤ ceiling → Smallest rule d ceiling n z
   smallest-holds n z t ceiling h =
-      let u = both (leb 1 n) (firstTest n z && noneBelow n) t in
-      let v = both (firstTest n z) (noneBelow n) (u .1) in
-      record { low = leb→le 1 n (u .0); high = h; first = first-holds n z (v .0); smaller-fail = none-holds n (v .1) }
+      let u = both (leb 1 n) (firstTest gentle n z && noneBelow n) t in
+      let v = both (firstTest gentle n z) (noneBelow n) (u .1) in
+      record { low = leb→le 1 n (u .0); high = h; gentlest = first-holds gentle n z (v .0); smaller-fail = none-holds n (v .1) }

@@ -14,7 +14,7 @@ use lib.Seq.{getD-set-same, getD-set-other, set-set, set-getD, ext-getD}
 use Rattle.rank1.specs.Residue.{residue, dot}
 use Rattle.rank1.specs.Index.{zeroRow}
 use Rattle.rank1.specs.Rule.{Rule, Admissible}
-use Rattle.rank1.specs.Search.{FirstBelow}
+use Rattle.rank1.specs.Below.{FirstBelow}
 use Rattle.rank1.specs.Axes.{swap, Interchangeable}
 use Rattle.rank1.proofs.RuleLaws.{Reduces}
 use Rattle.rank1.proofs.MirrorLaws.{same-length, mirror-sizes}

@@ -3,22 +3,23 @@
 -- row has with z is admissible with z (`symmetric`); and if z is the first vector below a bound, that one does not come before it
 -- (`none-lower`).
 use mathlib.Core.Path.{_≡_, sym, _∙_, ap, subst}
-use mathlib.Core.Logic.{inl, inr, ⊎-elim}
-use mathlib.Core.List.{List, [], _∷_, map, map-map, List·Memᴰ}
+use mathlib.Core.Logic.{⊎-elim}
+use mathlib.Core.List.{List, map, map-map, List·Memᴰ}
 use Prim.Native.Nat.{ℕ, zero, suc, _<_, _≤_}
 use native.Mathlib.Nat.{mod-eq-of-lt}
 use native.Mathlib.Omega.{arith}
 use lib.IntN.{ℤ, pos}
-use lib.ListN.{length, getD}
+use lib.ListN.{length, getD, length-map}
 use Rattle.rank1.specs.Residue.{residue, residueAt}
 use Rattle.rank1.specs.Index.{zeroRow, mirrors, mirrored}
 use Rattle.rank1.specs.Rule.{Integrates, Reconstructs, PlanA, PlanB, PlanC, Rule, Admissible}
-use Rattle.rank1.specs.Search.{Before, InRange, FirstBelow}
+use Rattle.rank1.specs.Search.{Before, InRange}
+use Rattle.rank1.specs.Below.{FirstBelow}
 use Rattle.rank1.specs.Differences.{Apart}
-use Rattle.rank1.proofs.Order.{compared}
+use Rattle.rank1.proofs.Order.{compared, before-strict, before-at}
 use Rattle.rank1.proofs.MirrorLaws.{sizes, mirror-self, mirror-sizes, sizes-mirror, Mirror, mirrored-in, mirrored-out}
 use Rattle.rank1.proofs.RuleLaws.{one-rule, Reduces}
-use Rattle.rank1.proofs.SearchLaws.{residues-ranged, none-before}
+use Rattle.rank1.proofs.SearchLaws.{residue-at, residues-ranged, none-before}
 
 -- ---- rows moved into a list
 -- f moves the rows of ks to rows of ks′ and their mirrors along, no two of these to one row, and only zero rows to zero rows; a moved row
@@ -94,13 +95,8 @@ moved plan ks n z z′ f pairs equal a =
 -- ---- the first vector below a bound
 -- residues that are the components of z before an axis, and less there, come before z
 lower-before : (n : ℕ) (y : List ℤ) (z : List ℕ) (i : ℕ) → length y ≡ length z → i < length z → ((a : ℕ) → a < i → residue n (getD y a (pos 0)) ≡ getD z a 0) → residue n (getD y i (pos 0)) < getD z i 0 → Before (map (residue n) y) z
-unfolding Before
-lower-before n [] [] i e l f g = absurd (omega arith)
-lower-before n [] (b ∷ z) i e l f g = absurd (omega arith)
-lower-before n (x ∷ y) [] i e l f g = absurd (omega arith)
-lower-before n (x ∷ y) (b ∷ z) zero e l f g = inl g
-lower-before n (x ∷ y) (b ∷ z) (suc i) e l f g =
-    inr (f 0 (omega arith), lower-before n y z i (omega arith) (omega arith) (λ a h. f (suc a) (omega arith)) g)
+lower-before n y z i e l f g =
+    before-at i (map (residue n) y) z (omega (arith, length-map y (residue n))) l (λ a k. residue-at n y a ∙ f a k) (omega (arith, residue-at n y i))
 
 -- a component of a vector below b is its own residue
 pub own-residue : (n b d : ℕ) (z : List ℕ) (a : ℕ) → b ≤ n → a < d → InRange b d z → residue n (pos (getD z a 0)) ≡ getD z a 0
@@ -117,7 +113,7 @@ pub none-lower :
     → (y : List ℤ) → length y ≡ d → rule n y → (i : ℕ) → i < d → ((a : ℕ) → a < i → getD y a (pos 0) ≡ pos (getD z a 0))
     → residue n (getD y i (pos 0)) < getD z i 0 → ((a : ℕ) → i < a → a < d → residue n (getD y a (pos 0)) < b) → ⊥
 none-lower rule d n b z passes h u f y e r i l before lower behind =
-    none-before rule d n b z f (map (residue n) y) (residues-ranged n b d y e below)
+    none-before rule d Before before-strict n b z f (map (residue n) y) (residues-ranged n b d y e below)
     (subst (rule n) (sym (map-map pos (residue n) y)) (passes n y h r))
     (lower-before n y z i (e ∙ sym (f .ranged .size)) (omega (arith, f .ranged .size))
     (λ a k. ap (residue n) (before a k) ∙ own-residue n b d z a u (omega arith) (f .ranged))

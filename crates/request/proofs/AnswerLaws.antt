@@ -110,7 +110,7 @@ plan-or-nine-short plan d ceiling run a h c (inl p) =
     omega (
       arith,
       ap length (p .text),
-      plan-short plan (p .modulus) d (p .vector) (indexList d run) (s .low) (omega (arith, s .high)) (h .head .axes .1) (s .first .ranged .size) (s .first .ranged .below)
+      plan-short plan (p .modulus) d (p .vector) (indexList d run) (s .low) (omega (arith, s .high)) (h .head .axes .1) (s .gentlest .ranged .size) (s .gentlest .ranged .below)
           (λ k m. omega (arith, h .head .axes .1, member-length d (rowCount d run) run k (div-mul-le-self (length run) d) m))
           (omega (arith, list-rows d (h .rowsRead) run (h .head .axes .0) (h .size), h .head .rows)),
     )

@@ -152,7 +152,7 @@ module _ {plan d m : ℕ} {xs : List ℤ} {ceiling : ℕ} {after : List ℕ} {r 
           arith,
           w .is-end,
           length-append (numberText n) (vectorText after),
-          first-line-short n d after small (done .head .axes .1) (smallest .first .ranged .size) (smallest .first .ranged .below),
+          first-line-short n d after small (done .head .axes .1) (smallest .gentlest .ranged .size) (smallest .gentlest .ranged .below),
         )
 
     -- plan 0: the first line
@@ -180,12 +180,12 @@ module _ {plan d m : ℕ} {xs : List ℤ} {ceiling : ℕ} {after : List ℕ} {r 
                     firstOf-none (badComponent plan xs) (equalRows d xs ∷ []) .1 (clear .0, firstOf-none (equalRows d xs) [] .1 (clear .1, refl)),
                   ),
                 ),
-                pair-none d n after (record { low = smallest .low; high = small }) (smallest .first .ranged),
+                pair-none d n after (record { low = smallest .low; high = small }) (smallest .gentlest .ranged),
               ),
             ),
             firstOf-none bad-room (rule ∷ []) .1 (
               places-clear places (2 * rowCount d xs) .1 (omega (arith, request-rows plan d m xs (done .head) (done .size))),
-              firstOf-none rule [] .1 (rule-clear plan (indexList d xs) n after .1 (smallest .first .admissible), refl),
+              firstOf-none rule [] .1 (rule-clear plan (indexList d xs) n after .1 (smallest .gentlest .admissible), refl),
             ),
           )
 

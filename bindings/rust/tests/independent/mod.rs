@@ -1,6 +1,6 @@
 //! A planner written from the words of documents 01 and 02 alone, to hold the library against. It shares nothing with the crates and
 //! knows no shortcut: every residue is a sum of products, every rule goes pair by pair, M is a set of rows, the list of some corners
-//! is a set of rows too, and a search tries every vector at every modulus.
+//! is a set of rows too, and a search tries every vector at every modulus, each once, in the order of document 02, f.
 //!
 //! A call answers with what it would write, or with the number of the refusal.
 
@@ -306,27 +306,34 @@ pub fn point_list(plan: u8, d: usize, n: u16, z: &[u16], places: usize) -> Resul
     Ok(lines.concat())
 }
 
-/// The first admissible vector at n in dictionary order.
-fn first(plan: u8, d: usize, list: &[Vec<i64>], n: i64) -> Option<Vec<i64>> {
+/// The next vector in dictionary order with components up to `largest`; false behind the last.
+fn advance(z: &mut [i64], largest: i64) -> bool {
+    for x in z.iter_mut().rev() {
+        if *x < largest {
+            *x += 1;
+            return true;
+        }
+        *x = 0;
+    }
+    false
+}
+
+/// The first admissible vector at n in dictionary order among those whose largest component is `largest`.
+fn first_with(plan: u8, d: usize, list: &[Vec<i64>], n: i64, largest: i64) -> Option<Vec<i64>> {
     let mut z = vec![0; d];
     loop {
-        if admissible(plan, list, n, &z) {
+        if z.contains(&largest) && admissible(plan, list, n, &z) {
             return Some(z);
         }
-        // the next in dictionary order
-        let mut j = d;
-        loop {
-            if j == 0 {
-                return None;
-            }
-            j -= 1;
-            z[j] += 1;
-            if z[j] < n {
-                break;
-            }
-            z[j] = 0;
+        if !advance(&mut z, largest) {
+            return None;
         }
     }
+}
+
+/// The admissible vector at n with the least largest component, then the first in dictionary order.
+fn gentlest(plan: u8, d: usize, list: &[Vec<i64>], n: i64) -> Option<Vec<i64>> {
+    (0..n).find_map(|largest| first_with(plan, d, list, n, largest))
 }
 
 fn search(plan: u8, d: usize, rows: &[i16], low: u16, high: u16, places: usize) -> Result<(u16, Vec<u16>), u8> {
@@ -334,7 +341,7 @@ fn search(plan: u8, d: usize, rows: &[i16], low: u16, high: u16, places: usize) 
     the_modulus(high)?;
     refuse(8, places != d)?;
     for n in low..=high {
-        if let Some(z) = first(plan, d, &list, i64::from(n)) {
+        if let Some(z) = gentlest(plan, d, &list, i64::from(n)) {
             return Ok((n, z.iter().map(|&x| x as u16).collect()));
         }
     }
@@ -347,6 +354,12 @@ pub fn search_vector(plan: u8, d: usize, rows: &[i16], n: u16, places: usize) ->
 
 pub fn search_smallest(plan: u8, d: usize, rows: &[i16], ceiling: u16, places: usize) -> Result<(u16, Vec<u16>), u8> {
     search(plan, d, rows, 1, ceiling, places)
+}
+
+/// The winner of two vectors: the shorter, then the one with the smaller largest component, then the first in dictionary order;
+/// `min_by_key` gives the left one on a full tie.
+pub fn gentler<'a>(left: &'a [u16], right: &'a [u16]) -> &'a [u16] {
+    [left, right].into_iter().min_by_key(|z| (z.len(), z.iter().max().copied(), *z)).unwrap()
 }
 
 pub fn tally_list(plan: u8, d: usize, rows: &[i16]) -> Result<Record, u8> {

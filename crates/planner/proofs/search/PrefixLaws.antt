@@ -1,16 +1,14 @@
 -- Vectors with the same beginning, as the search compares them, and what it knows of a prefix: that no vector of whole numbers that
 -- meets the rule begins so, or that no first vector does.
 use mathlib.Core.Path.{_≡_, sym, ap, _∙_}
-use mathlib.Core.Logic.{⊎-elim}
-use mathlib.Core.List.{List, [], _∷_, map}
-use Prim.Native.Nat.{ℕ, zero, suc, _+_, _<_, _≤_}
+use mathlib.Core.List.{List, map}
+use Prim.Native.Nat.{ℕ, _+_, _<_, _≤_}
 use native.Mathlib.Omega.{arith}
 use borrow.Author.Count.{below-more}
 use lib.IntN.{pos}
 use lib.ListN.{length, getD, take, set, length-map, List·getD-map}
 use lib.Seq.{getD-take, length-take-le, ext-getD, getD-set-other}
 use Rattle.rank1.specs.Rule.{Rule}
-use Rattle.rank1.specs.Search.{Before}
 use Rattle.rank1.specs.Axes.{Agree}
 use Rattle.planner.specs.Stage.{BeginsAs, NoneFrom, NoFirstFrom}
 
@@ -33,16 +31,6 @@ agree-take k y z ly lz same =
 -- a store at k leaves what stands before it, and is read back there
 pub agree-set : (k v : ℕ) (z : List ℕ) → Agree k (set z k v) z
 agree-set k v z i l = getD-set-other z k i v 0 (omega arith)
-
--- y agrees with x below k and is greater at k: it does not come before x
-pub not-after : (k : ℕ) (y x : List ℕ) → Agree k y x → getD x k 0 < getD y k 0 → Before y x → ⊥
-unfolding Before
-not-after k [] x same less b = b
-not-after k (a ∷ y) [] same less b = b
-not-after zero (a ∷ y) (c ∷ x) same less b = ⊎-elim (λ l. omega arith) (λ p. omega arith) b
-not-after (suc k) (a ∷ y) (c ∷ x) same less b =
-    let e : a ≡ c = same 0 (omega arith) in
-    ⊎-elim (λ l. omega arith) (λ p. not-after k y x (λ i l. same (suc i) (omega arith)) less (p .1)) b
 
 -- as whole numbers y begins as z where it agrees with it
 pub agree-begins : (k : ℕ) (y z : List ℕ) → Agree k y z → BeginsAs k (map pos y) z

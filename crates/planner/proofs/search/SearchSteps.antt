@@ -15,13 +15,14 @@ use lib.Seq.{getD-set-same}
 use Rattle.planner.specs.declared.search.Search.{Search}
 use Rattle.rank1.specs.Tests.{Decides}
 use Rattle.rank1.specs.Rule.{Rule}
-use Rattle.rank1.specs.Search.{Before, FirstBelow}
+use Rattle.rank1.specs.Search.{Before}
+use Rattle.rank1.specs.Below.{FirstBelow}
 use Rattle.rank1.specs.Axes.{Agree}
-use Rattle.rank1.proofs.Order.{compared, before-irrefl}
+use Rattle.rank1.proofs.Order.{compared, before-irrefl, not-before-at}
 use Rattle.planner.specs.Sizes.{room, largestModulus}
 use Rattle.planner.specs.Inner.{KeptBelow}
 use Rattle.planner.specs.Stage.{ListTables, ModulusTables, Work, work, ruleOf, Fixed, Stage, KeptBefore, NoFirstFrom, Lowest, ValueEnd, Ruled, at-first, behind, Sifted, SumsTo, NextFree, Completed}
-use Rattle.planner.proofs.search.PrefixLaws.{agree-all, agree-more, agree-set, agree-begins, not-after}
+use Rattle.planner.proofs.search.PrefixLaws.{agree-all, agree-more, agree-set, agree-begins}
 use Rattle.planner.proofs.search.ValueLaws.{low-passed, high-passed}
 use Rattle.planner.proofs.search.ForbidLaws.{forbidden-none, first-none}
 use Rattle.planner.proofs.search.StageLaws.{kept-none, kept-more}
@@ -36,7 +37,7 @@ pub record Passed (rule : Rule) (d n b at : ℕ) (start w : Work) (v : ℕ) : Ty
 -- the marks of component at are set: `sieved` is what stands there then
 module _ (s : Search) (T : ListTables) (M : ModulusTables) (at : ℕ) (sieved : Work) (stage : Stage s T M at sieved) (within : at < s .d) where
   -- the lowest value is the first that is tried
-  pub passed-low : (r : ℕ) → Lowest (T .swaps) at (sieved .z) r → Passed (ruleOf (s .plan) (s .d) T) (s .d) (s .n) (s .values) at sieved sieved r
+  pub passed-low : (r : ℕ) → Lowest (s .start) (T .swaps) at (sieved .z) r → Passed (ruleOf (s .plan) (s .d) T) (s .d) (s .n) (s .values) at sieved sieved r
   passed-low r low = record {
     kept = kept-none at sieved;
     marks = λ i l. refl;
@@ -44,8 +45,8 @@ module _ (s : Search) (T : ListTables) (M : ModulusTables) (at : ℕ) (sieved : 
     none = λ y f same l.
         omega (
           arith,
-          low-passed (s .plan) (s .d) (s .top) (s .tail) T (s .n) (s .values) at (stage .fixed .tabled) (stage .fixed .prefix .modulus .low) (stage .fixed .few-values) within (sieved .z) y r low f
-              same,
+          low-passed (s .plan) (s .d) (s .top) (s .tail) T (s .n) (s .values) at (stage .fixed .tabled) (stage .fixed .prefix .modulus .low) (stage .fixed .few-values) within (s .start) (sieved .z) y r
+              (stage .fixed .begins y f) low f same,
         );
   }
 
@@ -153,7 +154,7 @@ module _ (rule : Rule) (d n b at v : ℕ) (start w : Work) (passed : Passed rule
         (λ low. passed .none y f same low)
         (⊎-elim
         (λ here. done .least e y f (begins y same here) before)
-        (λ high. not-after at y x x-below (omega arith) before))
+        (λ high. not-before-at at y x x-below (omega arith) before))
         (compared (getD y at 0) v);
     none = λ e. absurd (true≢false e);
   }

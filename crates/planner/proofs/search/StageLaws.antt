@@ -78,6 +78,7 @@ stage-kept s T M at old new k g = record {
         prefixed-kept s at (old .z) (old .products) (old .owners) (new .z) (new .products) (new .owners) (tabled .listed .covers .narrow)
         (k .size) (k .begins) (k .product-size) (k .products) (k .owner-size) (g .fixed .prefix);
     few-values = g .fixed .few-values;
+    begins = g .fixed .begins;
     below = λ j l. omega (arith, k .begins j l, g .fixed .below j l);
   };
   sums =
@@ -323,6 +324,7 @@ module _ (s : Search) (T : ListTables) (M : ModulusTables) (at v : ℕ) (w : Wor
         tabled = g .fixed .tabled;
         prefix = t .prefix e;
         few-values = g .fixed .few-values;
+        begins = g .fixed .begins;
         below =
             subst (λ (y : List ℕ). (j : ℕ) → j < at + 1 → getD y j 0 < s .values) (sym (t .stored))
             (below-stored s at v (w .z) within (g .fixed .prefix .size) less (g .fixed .below));

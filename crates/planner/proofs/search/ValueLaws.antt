@@ -15,7 +15,7 @@ use lib.ListN.{length, getD}
 use Rattle.planner.specs.declared.search.Search.{Search}
 use Rattle.rank1.specs.Index.{rowCount, indexList}
 use Rattle.rank1.specs.Rule.{Rule}
-use Rattle.rank1.specs.Search.{FirstBelow}
+use Rattle.rank1.specs.Below.{FirstBelow}
 use Rattle.rank1.specs.Axes.{Agree}
 use Rattle.rank1.proofs.TestLaws.{either-false}
 use Rattle.rank1.proofs.IndexLaws.{member-length}
@@ -25,13 +25,13 @@ use Rattle.rank1.proofs.FirstLaws.{first-component}
 use Rattle.rank1.proofs.SwapLaws.{plan-exchanges, swap-first}
 use Rattle.rank1.proofs.FlipLaws.{flip-first}
 use Rattle.planner.specs.Sizes.{axes}
-use Rattle.planner.specs.Stage.{ListTables, ruleOf, Tabled, NoFirstFrom, Raised, unraised, higher, Lowest, nothing, raised, ValueEnd, CannotLead}
+use Rattle.planner.specs.Stage.{ListTables, ruleOf, Tabled, NoFirstFrom, Raised, unraised, higher, Lowest, nothing, started, raised, ValueEnd, CannotLead}
 
 -- ---- how the code finds them
 -- one axis more for the lowest value
-pub lowest-more : (swaps : List ℕ) (at : ℕ) (z : List ℕ) (low i r : ℕ) → i < at → Raised low (getD swaps (i * axes + at) 0) (getD z i 0) r → Lowest swaps at z low → Lowest swaps at z r
-lowest-more swaps at z low i r l (unraised e) s = subst (Lowest swaps at z) (sym e) s
-lowest-more swaps at z low i r l (higher marked e) s = raised i l marked e
+pub lowest-more : (start : ℕ) (swaps : List ℕ) (at : ℕ) (z : List ℕ) (low i r : ℕ) → i < at → Raised low (getD swaps (i * axes + at) 0) (getD z i 0) r → Lowest start swaps at z low → Lowest start swaps at z r
+lowest-more start swaps at z low i r l (unraised e) s = subst (Lowest start swaps at z) (sym e) s
+lowest-more start swaps at z low i r l (higher marked e) s = raised i l marked e
 
 -- one value more that is struck
 pub free-more : (base from w : ℕ) (struck : List ℕ) → getD struck (base + w) 0 ≢ 0 → ((v : ℕ) → from ≤ v → v < w → getD struck (base + v) 0 ≢ 0) → (v : ℕ) → from ≤ v → v < w + 1 → getD struck (base + v) 0 ≢ 0
@@ -43,10 +43,13 @@ module _ (plan d top tail : ℕ) (T : ListTables) (n b at : ℕ) (tabled : Table
   long : (k : List ℤ) → List·Memᴰ k (indexList d (T .rows)) → length k ≡ d
   long k m = member-length d (rowCount d (T .rows)) (T .rows) k (omega (arith, tabled .listed .list .whole)) m
 
-  -- interchangeable axes: the component of a first vector is not below r
-  pub low-passed : (z y : List ℕ) (r : ℕ) → Lowest (T .swaps) at z r → FirstBelow (ruleOf plan d T) d n b y → Agree at y z → r ≤ getD y at 0
-  low-passed z y r (nothing e) f same = omega arith
-  low-passed z y r (raised i earlier marked e) f same =
+  -- the start, and interchangeable axes: the component of a first vector is not below r
+  pub low-passed :
+      (start : ℕ) (z y : List ℕ) (r : ℕ) → start ≤ getD y 0 0 → Lowest start (T .swaps) at z r → FirstBelow (ruleOf plan d T) d n b y → Agree at y z
+      → r ≤ getD y at 0
+  low-passed start z y r begins (nothing e) f same = omega arith
+  low-passed start z y r begins (started first e) f same = subst (λ (k : ℕ). r ≤ getD y k 0) (sym first) (omega (arith, begins))
+  low-passed start z y r begins (raised i earlier marked e) f same =
       omega (
         arith,
         same i earlier,

@@ -45,10 +45,10 @@ calls t = (
   rule-holds-reads.Learnt,
   sieve-at-reads.Asked,
   sieve-at-reads.Learnt,
-  value-end-reads.Asked,
-  value-end-reads.Learnt,
   lowest-reads.Asked,
   lowest-reads.Learnt,
+  value-end-reads.Asked,
+  value-end-reads.Learnt,
   next-free-reads.Asked,
   next-free-reads.Learnt,
   add-sums-reads.Asked,
@@ -60,11 +60,11 @@ calls t = (
 )
 
 abbrev complete-Inv-loop : complete-lts.InvT-loop
-complete-Inv-loop s at rows levels sizes swaps flips components bounds solutions starts steps z₀ sums₀ products₀ struck₀ owners₀ base end v₀ z sums products struck owners v =
+complete-Inv-loop s at rows levels sizes swaps flips components bounds solutions starts steps z₀ sums₀ products₀ struck₀ owners₀ base low end v₀ z sums products struck owners v =
     (v ≤ end) × Passed (ruleOf (s .plan) (s .d) (listTables rows levels sizes swaps flips components bounds)) (s .d) (s .n) (s .values) at (work z₀ sums₀ products₀ struck₀ owners₀) (work z sums products struck owners) v
 
 abbrev complete-μ-loop : complete-lts.MeasureT-loop
-complete-μ-loop s at rows levels sizes swaps flips components bounds solutions starts steps z₀ sums₀ products₀ struck₀ owners₀ base end v₀ z sums products struck owners v =
+complete-μ-loop s at rows levels sizes swaps flips components bounds solutions starts steps z₀ sums₀ products₀ struck₀ owners₀ base low end v₀ z sums products struck owners v =
     end - v
 
 -- ---- the places of the code that this proof speaks of, and the way from each back to the one before it
@@ -110,10 +110,10 @@ abbrev unfixed : {t : ℕ} → Marked t → Unfixed t
 unfixed c = c .before .before .before .before
 
 abbrev marked : {t : ℕ} → Ended t → Marked t
-marked c = c .before .before .before
+marked c = c .before .before .before .before .before
 
 abbrev ended-at : {t : ℕ} → Free t → Ended t
-ended-at c = c .before .before .before .before
+ended-at c = c .before .before
 
 abbrev free : {t : ℕ} → Summed t → Free t
 free c = c .before .before .before .before
@@ -187,7 +187,7 @@ passed-first t c =
     let m = marked (ended-at c) in
     let b = entry (unfixed m) in
     let a = b .args in
-    let low = c .before .before .lowest in
+    let low = ended-at c .before .lowest in
     passed-free (a .s) (tablesOf b) (modulusOf b) (a .at) (markedOf m) (stage-marked t m) (within t (unfixed m)) (a .struck .now) (markedOf m) (markedOf m) (low .result)
     (ended-at c .value-end .result) (c .next-free .result) refl refl (m .sieve-at .ensures) (c .next-free .ensures)
     (passed-low (a .s) (tablesOf b) (modulusOf b) (a .at) (markedOf m) (stage-marked t m) (within t (unfixed m)) (low .result) (low .ensures))
@@ -353,21 +353,21 @@ complete-mul-base t c =
     let g = entry (unfixed (c .before .before)) .pre .1 .fixed in
     record { fits = omega (arith, g .prefix .within, g .tabled .listed .list .few-axes) }
 
-complete-value-end-requires : (t : ℕ) → complete-lts.Need-value-end-requires (calls t) (complete-at t) complete.Post complete-Inv-loop complete-μ-loop
-complete-value-end-requires t c κs =
-    let o = unfixed (c .before .before) in
-    let g = entry o .pre .1 .fixed .tabled in
-    omega (arith, within t o, g .listed .list .few-axes, g .differenced .flip-size)
-
 complete-lowest-requires : (t : ℕ) → complete-lts.Need-lowest-requires (calls t) (complete-at t) complete.Post complete-Inv-loop complete-μ-loop
 complete-lowest-requires t c κs =
-    let o = unfixed (marked (c .before)) in
+    let o = unfixed (c .before .before .before) in
     let g = entry o .pre .1 .fixed in
     (omega (arith, within t o, g .tabled .listed .list .few-axes), g .tabled .swaps .size, omega (arith, g .prefix .size, g .prefix .within))
 
+complete-value-end-requires : (t : ℕ) → complete-lts.Need-value-end-requires (calls t) (complete-at t) complete.Post complete-Inv-loop complete-μ-loop
+complete-value-end-requires t c κs =
+    let o = unfixed (c .before .before .before .before) in
+    let g = entry o .pre .1 .fixed .tabled in
+    omega (arith, within t o, g .listed .list .few-axes, g .differenced .flip-size)
+
 complete-next-free-requires : (t : ℕ) → complete-lts.Need-next-free-requires (calls t) (complete-at t) complete.Post complete-Inv-loop complete-μ-loop
 complete-next-free-requires t c κs =
-    let e = c .before .before .before in
+    let e = c .before in
     let o = unfixed (marked e) in
     let g = stage-marked t (marked e) in (
       omega (arith, g .marks, e .value-end .ensures .low, g .fixed .few-values, g .fixed .prefix .modulus .high, within t o, g .fixed .tabled .listed .list .few-axes),
@@ -548,8 +548,8 @@ pub +complete-spec : {M : Type 1} → statement M
     (complete-returns t)
     (complete-sieve-at-requires t)
     (complete-mul-base t)
-    (complete-value-end-requires t)
     (complete-lowest-requires t)
+    (complete-value-end-requires t)
     (complete-next-free-requires t)
     (complete-same-length-4 t)
     (complete-same-length-5 t)

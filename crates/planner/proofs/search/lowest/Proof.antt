@@ -1,18 +1,18 @@
--- `search::lowest`: what was found among the axes before i. Measure: the axes left.
+-- `search::lowest`: the start of the first component; of a later one what was found among the axes before i. Measure: the axes left.
 use mathlib.Core.Path.{refl}
 use Prim.Native.Nat.{_-_, _≤_}
 use native.Mathlib.Omega.{arith}
 use borrow.Author.Needs.{needs}
-use Rattle.planner.specs.Stage.{Lowest, nothing}
+use Rattle.planner.specs.Stage.{Lowest, nothing, started}
 use Rattle.planner.proofs.search.ValueLaws.{lowest-more}
 use Rattle.planner.proofs.search.lowest.Statement.{statement}
 use Rattle.planner.proofs.search.lowest.Tie as tie
 
 abbrev Inv-loop : tie.InvT-loop
-Inv-loop at swaps z low₀ i₀ low i = (i ≤ at) × Lowest swaps at z low
+Inv-loop start at swaps z low₀ i₀ low i = (i ≤ at) × Lowest start swaps at z low
 
 abbrev μ-loop : tie.MeasureT-loop
-μ-loop at swaps z low₀ i₀ low i = at - i
+μ-loop start at swaps z low₀ i₀ low i = at - i
 
 loop-holds : tie.Need-loop-holds Inv-loop μ-loop
 loop-holds c = (omega arith, nothing refl)
@@ -45,10 +45,13 @@ loop-again : tie.Need-loop-again Inv-loop μ-loop
 loop-again c =
     let a = c .before .before .before .before .before .before .before .args in
     let l = c .before .before .before .before .loop in
-    (omega arith, lowest-more (a .swaps .now) (a .at) (a .z .now) (l .low) (l .i) (c .raised .result) (omega arith) (c .raised .ensures) (l .inv .1))
+    (omega arith, lowest-more (a .start) (a .swaps .now) (a .at) (a .z .now) (l .low) (l .i) (c .raised .result) (omega arith) (c .raised .ensures) (l .inv .1))
 
 returns : tie.Need-returns Inv-loop μ-loop
-returns c = c .before .loop .inv .1
+returns c = started (c .if1 .taken) refl
+
+returns-2 : tie.Need-returns-2 Inv-loop μ-loop
+returns-2 c = c .before .before .loop .inv .1
 
 pub lowest-spec : {M : Type 1} → statement M
 lowest-spec =
@@ -66,4 +69,5 @@ lowest-spec =
     add-i
     loop-less
     loop-again
-    returns)
+    returns
+    returns-2)

@@ -1,4 +1,4 @@
--- `planner::moduli::copy` meets its contract. The invariant: the components before i are those of `from`. Measure: those left.
+-- `planner::vectors::copy` meets its contract. The invariant: the components before i are those of `from`. Measure: those left.
 use mathlib.Core.Path.{_≡_, refl, _∙_}
 use Prim.Native.Nat.{ℕ, _≤_, _<_, _-_, zero-le}
 use native.Mathlib.Omega.{arith}
@@ -6,8 +6,8 @@ use lib.ListN.{length, getD, set, length-set}
 use lib.Seq.{getD-set-same, getD-set-other, ext-getD}
 use borrow.Author.Count.{below-more}
 use borrow.Author.Needs.{needs}
-use Rattle.planner.proofs.moduli.copy.Statement.{statement}
-use Rattle.planner.proofs.moduli.copy.Tie as tie
+use Rattle.planner.proofs.vectors.copy.Statement.{statement}
+use Rattle.planner.proofs.vectors.copy.Tie as tie
 
 abbrev Inv-loop : tie.InvT-loop
 Inv-loop to₀ from i₀ i-end to i = (length to ≡ length to₀) × (i ≤ length to₀) × ((k : ℕ) → k < i → getD to k 0 ≡ getD from k 0)

@@ -1,0 +1,2 @@
+-- Laws that the proofs of the rounds share.
+pub mod RoundLaws

@@ -1,0 +1,2 @@
+-- Laws that the proofs of the vectors share.
+pub mod LargestLaws
