@@ -1,5 +1,7 @@
 // Validation: the conditions 1 to 8 of document 01's refusal table and those of corners (document 02, c), each written once. A refusal is a number, 0 for none.
 
+#![tactic(auto)]
+
 ghost use Rattle.std.specs.Prelude.{◌≡◌, List, [], ◌∷◌, ◌++◌, ◌+◌, ◌*◌, ◌≤◌, leb, ℤ, length, take, drop};
 ghost use Rattle.rank1.specs.Tests.{any, same_row};
 ghost use Rattle.rank1.specs.Index.{rows_of, index_list};
