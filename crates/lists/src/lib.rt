@@ -2,6 +2,8 @@
 // any arguments, and refuses wrong ones by number before it writes anything. What is counted of one row, and copying one, serve the
 // planner too.
 
+#![tactic(auto)]
+
 mod bound;
 mod corners;
 mod counting;
