@@ -10,7 +10,7 @@ use rank1::Tally;
 
 // The record as it is handed in: `zero` is 0 for no, and any other number for yes.
 #[repr(C)]
-#[derive(Drop)]
+#[derive(Clone, Copy)]
 pub struct PlannerTally {
     pub m: u32,
     pub size: u32,

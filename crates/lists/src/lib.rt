@@ -75,7 +75,7 @@ pub fn mirror_count(row: &[i16]) -> usize
 }
 
 // What counting a list, or a row more, answers: the record, or a refusal.
-#[derive(Drop)]
+#[derive(Clone, Copy)]
 pub enum Counted {
     Kept(Tally),
     Refused(u8),
@@ -117,7 +117,7 @@ pub fn add_row(plan: u8, d: usize, rows: &[i16], tally: Tally, row: &[i16]) -> C
 }
 
 // What the least modulus call answers: the modulus, or a refusal.
-#[derive(Drop)]
+#[derive(Clone, Copy)]
 pub enum Least {
     Modulus(u16),
     Refused(u8),
@@ -139,7 +139,7 @@ pub fn least_modulus(plan: u8, tally: Tally) -> Least
 }
 
 // What a call answers that writes rows to the front of a lent run: how many there are, or a refusal.
-#[derive(Drop)]
+#[derive(Clone, Copy)]
 pub enum RowCount {
     Rows(usize),
     Refused(u8),
@@ -181,7 +181,7 @@ pub fn corner_list(d: usize, corners: &[i16], out: &mut [i16]) -> RowCount
 }
 
 // Whether a list is lower, or a refusal.
-#[derive(Drop)]
+#[derive(Clone, Copy)]
 pub enum Lowness {
     Lower,
     NotLower,

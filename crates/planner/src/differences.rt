@@ -16,7 +16,7 @@ use crate::table::{add, set_difference};
 use crate::widths::wide;
 
 // How many differences a table has, and whether none was turned away or passed over.
-#[derive(Drop)]
+#[derive(Clone, Copy)]
 pub(crate) struct Differences {
     pub count: usize,
     pub whole: bool,

@@ -2,6 +2,8 @@
 // (document 02, f). Every public call takes any arguments, refuses wrong ones by the numbers of document 01's table, and then leaves
 // what it was lent as it was.
 
+#![tactic(auto)]
+
 mod axes;
 mod differences;
 mod fill;
@@ -37,7 +39,7 @@ use crate::sizes::PRODUCT_ROOM;
 use rank1::Tally;
 
 // What the check answers.
-#[derive(Drop)]
+#[derive(Clone, Copy)]
 pub enum Verdict {
     Admissible,
     Inadmissible,
@@ -130,7 +132,7 @@ pub fn point_list(plan: u8, d: usize, n: u16, z: &[u16], out: &mut [u16]) -> u8
 }
 
 // What a search answers: a plan, whose vector then stands in the lent places, or a refusal.
-#[derive(Drop)]
+#[derive(Clone, Copy)]
 pub enum Plan {
     Found(u16),
     Refused(u8),

@@ -13,7 +13,7 @@ use crate::sizes::{AXES, MOST_MEMBERS, ROOM, SLOTS};
 
 // What the search of a list asks beside its tables: the largest size of a component of a row or of a difference, the largest last
 // component of a difference, and whether no difference was turned away.
-#[derive(Drop)]
+#[derive(Clone, Copy)]
 pub(crate) struct Listing {
     pub(crate) top: usize,
     pub(crate) tail: usize,

@@ -15,7 +15,7 @@ use crate::rows::copy_row;
 use crate::sizes::MOST_MEMBERS;
 
 // How many members there are, and whether these are all of them.
-#[derive(Drop)]
+#[derive(Clone, Copy)]
 pub(crate) struct Gathered {
     pub(crate) count: usize,
     pub(crate) whole: bool,

@@ -13,7 +13,7 @@ use crate::vectors::{copy, largest_of};
 
 // What the search of a list is about at every modulus: the plan, the number of axes, the largest size of a component of a row or of
 // a difference, the largest last component of a difference, and whether no difference was turned away.
-#[derive(Drop)]
+#[derive(Clone, Copy)]
 pub(crate) struct Task {
     pub(crate) plan: u8,
     pub(crate) d: usize,

@@ -30,7 +30,7 @@ use crate::widths::wide;
 // values of a component are tried, the value at which the first component starts, the largest size of a component of a row or of a
 // difference, the largest last component of a difference, and whether every difference is struck (then the rows that end early need no
 // test of their own).
-#[derive(Drop)]
+#[derive(Clone, Copy)]
 pub(crate) struct Search {
     pub(crate) plan: u8,
     pub(crate) d: usize,

@@ -14,7 +14,7 @@ use crate::sizes::MOST_MIRRORS;
 use crate::widths::wide;
 
 // A row's residue and its c.
-#[derive(Drop)]
+#[derive(Clone, Copy)]
 struct Entry {
     residue: u16,
     copies: u16,

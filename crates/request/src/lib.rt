@@ -20,7 +20,7 @@ pub const TEXT_BYTES: usize = 32768;
 pub const ANSWER_BYTES: usize = 8192;
 
 // What became of an answer: how many bytes were written, or there is not room for them.
-#[derive(Drop)]
+#[derive(Clone, Copy)]
 pub enum Reply {
     Written(usize),
     NoRoom,

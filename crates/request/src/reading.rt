@@ -13,35 +13,35 @@ pub(crate) const MOST_ROWS: usize = 512;
 pub(crate) const MOST_AXES: usize = 6;
 
 // A field without a sign and the place behind it.
-#[derive(Drop)]
+#[derive(Clone, Copy)]
 pub enum Number {
     Value(u32, usize),
     Bad,
 }
 
 // A component of a row and the place behind it.
-#[derive(Drop)]
+#[derive(Clone, Copy)]
 pub enum Component {
     Value(i16, usize),
     Bad,
 }
 
 // Plan, d, m and N of line 1, and the place behind it.
-#[derive(Drop)]
+#[derive(Clone, Copy)]
 pub enum Line {
     Fields(u32, u32, u32, u32, usize),
     Bad,
 }
 
 // The place behind what was read.
-#[derive(Drop)]
+#[derive(Clone, Copy)]
 pub enum Next {
     At(usize),
     Bad,
 }
 
 // A request: plan, d, m and the ceiling, whose rows stand in the lent places; or a refusal.
-#[derive(Drop)]
+#[derive(Clone, Copy)]
 pub enum Asked {
     Request(u8, usize, usize, u16),
     Refused(u8),

@@ -1,0 +1,20 @@
+-- `rounds::lower`: the vector found last is first below some bound, and the tables serve the next round (Lowering). Measure: its largest
+-- component, which falls (lower_less). A round that finds nothing ends them at the gentlest vector (lower_ends).
+use mathlib.Core.Path.{◌≡◌, refl, sym, ap, ◌∙◌, subst}
+use native.Mathlib.Omega.{arith}
+use lib.ListN.{length, get_or}
+use borrow.Author.Rules.{rules}
+use borrow.Author.Tests.{not-true, not-false}
+use Rattle.rank1.specs.Search.{largest, Gentlest}
+use Rattle.planner.specs.Stage.{ListTables, list_tables, ModulusTables, modulus_tables, Work, work, rule_of, Roomy}
+use Rattle.planner.proofs.rounds.RoundLaws.{Lowering, Round, roomy-kept, round_stage, lower_more, lower_less, lower_ends}
+use Rattle.planner.proofs.rounds.lower.Given as goal
+
+abbrev pub invariant-loop-s : goal.invariant-loop-s
+invariant-loop-s l =
+    Lowering (rule_of l.s.plan l.s.d (list_tables l.rows l.levels l.sizes l.swaps l.flips l.components l.bounds)) l.s.d l.s.n (modulus_tables l.solutions l.starts l.steps) (work l.z l.sums l.products l.struck l.owners)
+    × (length l.best ≡ l.s.d)
+
+abbrev pub decreases-loop-s : goal.decreases-loop-s
+decreases-loop-s l =
+    largest l.z

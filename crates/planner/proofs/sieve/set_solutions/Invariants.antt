@@ -1,0 +1,17 @@
+-- `planner::set_solutions`: c is the residue of -t v, so v is a solution for it (`next_solves`).
+use mathlib.Core.Path.{◌≡◌, refl, sym, ◌∙◌, ap}
+use Prim.Native.Nat.{ℕ, ◌+◌, ◌-◌, ◌*◌, ◌%◌, ◌<◌, ◌≤◌, zero-le}
+use native.Mathlib.Nat.{mul-one, add-mod-mod, mod-lt, mul-mod_left}
+use native.Mathlib.Omega.{arith}
+use lib.ListN.{length, length-set}
+use Rattle.planner.specs.Sieve.{Solutions}
+use Rattle.planner.proofs.sieve.SolutionLaws.{solutions_none, solutions_more, negative_sum, zero_solves, next_solves, period}
+use borrow.Author.Rules.{rules}
+use Rattle.planner.proofs.sieve.set_solutions.Given as goal
+
+abbrev pub invariant-loop-v : goal.invariant-loop-v
+invariant-loop-v l =
+    (1 ≤ l.v) × (l.v ≤ l.n) × (l.c < l.n) × ((l.c + l.t * l.v) % l.n ≡ 0) × (length l.solutions ≡ length l.initial.solutions) × Solutions l.n l.t l.solutions
+
+abbrev pub decreases-loop-v : goal.decreases-loop-v
+decreases-loop-v l = l.n - l.v

@@ -1,0 +1,23 @@
+-- `sums::add_term` meets its contract. The invariant: at each place a has been added as often as it occurs among the first t
+-- residues. `Addable` keeps the sums in 64 bits.
+use mathlib.Core.Path.{◌≡◌, refl}
+use Prim.Native.Nat.{ℕ, zero-le, ◌≤◌, ◌<◌, ◌-◌}
+use native.Mathlib.Omega.{arith}
+use borrow.Author.Rules.{rules, sfits_of}
+use lib.IntN.{pos, ◌+ℤ◌, ◌*ℤ◌}
+use lib.ListN.{length, get_or, take, length-set}
+use lib.Seq.{get_or-take, length-take-le}
+use mir.Syntax.{w64}
+use mir.Val.{SFits, to_z, of_z}
+use mir.Facts.{to_z-of_z}
+use Rattle.planner.specs.Inner.{occurrences}
+use Rattle.planner.proofs.sums.SignedSteps.{sum_fits, sum_back}
+use Rattle.planner.proofs.sums.SumSteps.{none_added, term_more, term_fits}
+use Rattle.planner.proofs.sums.add_term.Given as goal
+
+abbrev pub invariant-loop-t : goal.invariant-loop-t
+invariant-loop-t l =
+    (l.t ≤ l.count) × (length l.sums ≡ length l.initial.sums) × ((r : ℕ) → get_or l.sums r (pos 0) ≡ get_or l.initial.sums r (pos 0) +ℤ (to_z w64 l.a *ℤ pos (occurrences r (take l.t l.residues))))
+
+abbrev pub decreases-loop-t : goal.decreases-loop-t
+decreases-loop-t l = l.count - l.t

@@ -1,0 +1,20 @@
+-- `planner::set_minus`: the components below j are set.
+use mathlib.Core.Path.{◌≡◌, refl, sym, ◌∙◌}
+use Prim.Native.Nat.{ℕ, ◌-◌, ◌<◌, ◌≤◌}
+use native.Mathlib.Omega.{arith}
+use lib.IntN.{pos, ◌-ℤ◌}
+use lib.ListN.{length, get_or, length-set}
+use lib.Seq.{ext_get_or}
+use Rattle.rank1.specs.Differences.{minus}
+use Rattle.planner.proofs.Writing.{stored_more}
+use Rattle.planner.proofs.table.TableLaws.{minus_fits, minus_back}
+use Rattle.rank1.proofs.DifferenceLaws.{minus_at, minus-length}
+use borrow.Author.Rules.{rules}
+use Rattle.planner.proofs.table.set_minus.Given as goal
+
+abbrev pub invariant-loop-j : goal.invariant-loop-j
+invariant-loop-j l =
+    (l.j ≤ length l.initial.h) × (length l.h ≡ length l.initial.h) × ((i : ℕ) → i < l.j → get_or l.h i (pos 0) ≡ get_or l.s i (pos 0) -ℤ get_or l.t i (pos 0))
+
+abbrev pub decreases-loop-j : goal.decreases-loop-j
+decreases-loop-j l = length l.initial.h - l.j

@@ -1,0 +1,19 @@
+-- `vectors::largest_of`: the larger of top and of the largest of what is left (largest_left, largest_end) is the largest of all. Measure:
+-- the components left.
+use mathlib.Core.Path.{◌≡◌}
+use mathlib.Core.Logic.{⊎_elim}
+use Prim.Native.Nat.{◌-◌, ◌≤◌, max}
+use native.Mathlib.Omega.{arith}
+use lib.ListN.{length, drop}
+use Rattle.rank1.specs.Search.{largest}
+use Rattle.planner.proofs.vectors.LargestLaws.{largest_left, largest_end}
+use borrow.Author.Rules.{rules}
+use Rattle.planner.proofs.vectors.largest_of.Goals as goal
+
+pub loop-i-preserved : goal.loop-i-preserved
+loop-i-preserved c =
+    let step = largest_left c.args.z.now c.loop-i.i (omega arith) in
+    ⊎_elim (λ w. (omega arith, omega arith)) (λ w. (omega arith, omega arith)) c.if-top-z.branch
+
+pub returns : goal.returns
+returns c = omega (arith, largest_end c.args.z.now c.loop-i.i (omega arith))
