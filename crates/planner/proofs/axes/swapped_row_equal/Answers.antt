@@ -46,9 +46,9 @@ loop-a-preserved c =
       omega arith,
       below_more (λ k. get_or row k (pos 0) ≡ get_or other (other_axis c.args.i c.args.j k) (pos 0)) a
           c.loop-a.invariant.1
-          (sym (to_z-of_z (sfits_of c.t10-1.given))
+          (sym (to_z-of_z (sfits_of {w = w16} c.t10-1.given))
           ∙ ap (to_z w16) c.if-row-a.false
-          ∙ to_z-of_z (sfits_of c.t14-1.given)
+          ∙ to_z-of_z (sfits_of {w = w16} c.t14-1.given)
           ∙ ap (λ (k : ℕ). get_or other k (pos 0)) c.other_axis.ensures),
     )
 

@@ -58,7 +58,7 @@ turned c =
     progress-more c.args.d c.args.from c.args.count (pairs c.before.before.before.before.before.before.before.before.before) c.args.found.now (rows₀ c.before.before.before.before.before.before.before.before.before) c.args.state.whole l.e
     l.h (place_of c) l.so_far.count m.result.count l.so_far.whole m.result.whole l.found (found_of c) l.slots (slots_of c)
     c.loop-e-test.true m.auto.h m.auto.found l.invariant
-    m.ensures
+    (m.ensures.stored_2, m.ensures.grown)
 
 pub shape_of-h-then-is_full : goal.shape_of-h-then-is_full
 shape_of-h-then-is_full c =

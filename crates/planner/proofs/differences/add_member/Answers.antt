@@ -8,6 +8,7 @@ use Rattle.planner.specs.Inner.{Covered}
 use Rattle.planner.proofs.differences.PairLaws.{grown_owned, grown-member}
 use borrow.Author.Rules.{rules}
 use Rattle.planner.proofs.differences.add_member.Goals as goal
+use Rattle.planner.proofs.differences.add_member.Goals.{then-plan-eq4+else-wide-owner, else-plan-eq4}
 
 pub returns-then-wide-owner : goal.returns-then-wide-owner
 returns-then-wide-owner c =
@@ -49,5 +50,5 @@ returns c =
       stored_2 = p.ensures.stored;
       grown = grown-member a.plan a.d a.owner a.members.now a.owners.now a.row.now a.e
           (rows_of a.d a.state.count a.found.now) (rows_of a.d p.result.count p.new.found) a.state.whole
-          p.result.whole r.result.now (λ f. ⊎_elim (λ w o. w.3.left (w.2.ensures ∙ o)) (λ w o. w.left f) came) r.ensures.0 p.ensures.grown;
+          p.result.whole r.result.now (λ f o. elim came [ then-plan-eq4+else-wide-owner w ↦ w.if-wide-owner.false (w.wide.ensures ∙ o) | else-plan-eq4 w ↦ w.if-plan-eq4.false f ]) r.ensures.0 p.ensures.grown;
     }

@@ -29,7 +29,7 @@ loop-i-preserved c =
     let l = c.loop-i in (
       omega arith,
       omega arith,
-      rw add-one (zero_more row l.i (omega arith) (sym (to_z-of_z (sfits_of c.t8-1.given)) ∙ ap (to_z w16) c.if-row-i-ne0.false) ∙ l.invariant.2),
+      rw add-one (zero_more row l.i (omega arith) (sym (to_z-of_z (sfits_of {w = w16} c.t8-1.given)) ∙ ap (to_z w16) c.if-row-i-ne0.false) ∙ l.invariant.2),
     )
 
 pub returns : goal.returns

@@ -23,7 +23,7 @@ fill_table-made-requires c =
 pub set_flips-requires : goal.set_flips-requires
 set_flips-requires c =
     let f = c.fill_table-made.ensures in
-    record { d_le_axes = (c.requires.list.few_axes, omega (arith, c.requires.flip-size, c.requires.list.few_axes)); stored = record { (goal.at.set_flips-requires c).After-fill_table-made = f.table; covers = f.covers } }
+    record { d_le_axes = (c.requires.list.few_axes, omega (arith, c.requires.flip-size, c.requires.list.few_axes)); stored = record { table = f.table; covers = f.covers } }
 
 pub arrange-tail-requires : goal.arrange-tail-requires
 arrange-tail-requires c =
@@ -56,11 +56,11 @@ returns c =
     let D = table.new.found in
     record {
       covers = covered_wider rows.result top.result a.rows.now top.ensures.0 top.ensures.2 rows.ensures;
-      flip-size = flips.kept.1.1.1.1.1.0 ∙ c.requires.flip-size;
+      flip-size = flips.auto.flips ∙ c.requires.flip-size;
       flips_right = flips.ensures (index_list a.d a.rows.now) table.ensures;
       differences = rows_of a.d table.result.count D;
       sound = table.ensures.sound;
-      (goal.at.returns c).After-arrange-tail = runs.arranged;
+      arranged = runs.arranged;
       small =
           runs.covers top.result (covered_wider found.result top.result D top.ensures.1 top.ensures.2 found.ensures)
           (covered_wider 0 top.result a.components.now (omega arith) top.ensures.2 c.requires.zeros);

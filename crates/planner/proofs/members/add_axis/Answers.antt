@@ -16,7 +16,7 @@ returns-then-row-axis-eq0 c =
     let g = a.g in
     record {
       mirroring = mirroring-zero a.d a.from a.owner a.row.now a.axis g.count a.members.now a.owners.now g.whole
-          (sym (to_z-of_z (sfits_of c.t13-1.given)) ∙ ap (to_z w16) c.if-row-axis-eq0.true) c.requires.1;
+          (sym (to_z-of_z (sfits_of {w = w16} c.t13-1.given)) ∙ ap (to_z w16) c.if-row-axis-eq0.true) c.requires.1;
       members_stay = stay_same a.d a.from a.members.now a.owners.now;
     }
 

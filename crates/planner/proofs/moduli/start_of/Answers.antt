@@ -8,10 +8,10 @@ use Rattle.planner.proofs.moduli.start_of.Goals as goal
 use Rattle.planner.proofs.moduli.start_of.Goals.{In-Modulus}
 
 -- the bound that the call gave
-bound : (c : In-Modulus) → c.least-1.given.0.0 ≡ least_modulus c.args.plan c.args.tally
+bound : (c : In-Modulus) → c.in-Modulus.least ≡ least_modulus c.args.plan c.args.tally
 bound c =
     let a = c.args in
-    (modulus_is a.plan a.tally c.least-1.given.0.0 (sym c.least-1.given.1 ∙ c.least_modulus.ensures)).1
+    (modulus_is a.plan a.tally c.in-Modulus.least (sym c.in-Modulus.is ∙ c.least_modulus.ensures)).1
 
 pub returns-then-low-least : goal.returns-then-low-least
 returns-then-low-least c = omega (arith, bound (goal.at.returns-then-low-least c).In-Modulus)
@@ -22,5 +22,5 @@ returns-else-low-least c = omega (arith, bound (goal.at.returns-else-low-least c
 pub returns-in-Refused : goal.returns-in-Refused
 returns-in-Refused c =
     let a = c.args in
-    let r = modulus_none_is a.plan a.tally c.enum_told-1.given.0.0 (sym c.enum_told-1.given.1 ∙ c.least_modulus.ensures) in
+    let r = modulus_none_is a.plan a.tally c.in-Refused.field-0 (sym c.in-Refused.is ∙ c.least_modulus.ensures) in
     absurd (r.1 c.requires)

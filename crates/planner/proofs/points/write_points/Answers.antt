@@ -46,7 +46,7 @@ write_line-requires c =
 
 pub overflow_add-at : goal.overflow_add-at
 overflow_add-at c =
-    omega (arith, line_fits (goal.at.overflow_add-at c).At-loop-i c.loop-i-test.true, run_kept (goal.at.overflow_add-at c).At-loop-i, c.good)
+    omega (arith, line_fits (goal.at.overflow_add-at c).At-loop-i c.loop-i-test.true, run_kept (goal.at.overflow_add-at c).At-loop-i, c.well_formed)
 
 pub loop-i-preserved : goal.loop-i-preserved
 loop-i-preserved c =

@@ -9,6 +9,7 @@ use Rattle.planner.specs.Sizes.{largest_size}
 use Rattle.planner.proofs.products.ProductLaws.{read_back, covered_all, covered_more}
 use borrow.Author.Rules.{rules}
 use Rattle.planner.proofs.products.largest.Goals as goal
+use Rattle.planner.proofs.products.largest.Goals.{then-top-size, else-top-size}
 
 pub loop-i-init : goal.loop-i-init
 loop-i-init c = (omega arith, omega arith, λ k l. absurd (omega arith))
@@ -26,10 +27,10 @@ loop-i-preserved c =
     let size : c.size_of-size.result ≡ nat_abs (get_or x i (pos 0)) =
     c.size_of-size.ensures ∙ ap nat_abs (read_back (get_or x i (pos 0)) small)
     in
-    ⊎_elim
-    (λ w. (omega arith, omega arith, covered_more x i c.loop-i.top c.if-top-size.top (omega arith) (omega arith) c.loop-i.invariant.2))
-    (λ w. (omega arith, omega arith, covered_more x i c.loop-i.top c.if-top-size.top (omega arith) (omega arith) c.loop-i.invariant.2))
-    c.if-top-size.branch
+    elim c.if-top-size.branch [
+      | then-top-size w ↦ (omega arith, omega arith, covered_more x i c.loop-i.top c.if-top-size.top (omega arith) (omega arith) c.loop-i.invariant.2)
+      | else-top-size w ↦ (omega arith, omega arith, covered_more x i c.loop-i.top c.if-top-size.top (omega arith) (omega arith) c.loop-i.invariant.2)
+    ]
 
 pub returns : goal.returns
 returns c = covered_all _ _ c.loop-i.invariant.1 (λ i l. c.loop-i.invariant.2 i (omega arith))

@@ -25,7 +25,7 @@ pub loop-j-preserved : goal.loop-j-preserved
 loop-j-preserved c =
     let l = c.loop-j in
     let h = c.args.h.now in
-    let e : get_or h l.j (pos 0) ≡ pos 0 = sym (to_z-of_z (sfits_of c.t7-1.given)) ∙ ap (to_z w16) c.if-h-j-ne0.false in
+    let e : get_or h l.j (pos 0) ≡ pos 0 = sym (to_z-of_z (sfits_of {w = w16} c.t7-1.given)) ∙ ap (to_z w16) c.if-h-j-ne0.false in
     (omega arith, zero_less h l.j (omega arith) e l.invariant.1)
 
 pub returns : goal.returns

@@ -20,34 +20,24 @@ use borrow.Author.Rules.{rules}
 use Rattle.planner.proofs.rule.all_mirrors_apart.Goals as goal
 use Rattle.planner.proofs.rule.all_mirrors_apart.Goals.{After-wide-r, At-rows, Start}
 
--- where a residue r of row i has been read: the head of the outer loop
-abbrev Read : Type 0
-Read = After-wide-r
-
-abbrev head : Read → At-rows
-head c = c.before.before.before.before.before.before.before.before.before
-
-abbrev entry : Read → Start
-entry c = start (head c)
-
--- r is the next residue to pass
-next : (c : Read) → Next (entry c).args.d (entry c).args.rows.now (entry c).args.n (entry c).args.z.now (head c).rows.i c.before.before.loop.t c.wide2.result
+-- where a residue r of row i has been read, r is the next residue to pass
+next : (c : After-wide-r) → Next c.args.d c.args.rows.now c.args.n c.args.z.now c.rows.i c.loop-t.t c.wide-r.result
 next c =
-    let a = (entry c).args in
-    let row = c.before.before.before.before.before.before.before.row_at_lem in
-    let out = c.before.before.before.before.before.mirror-residues in
-    subst (Next a.d a.rows.now a.n a.z.now (head c).rows.i c.before.before.loop.t) (sym c.wide2.ensures)
-    (mirror-next a.d a.rows.now a.n a.z.now (head c).rows.i c.before.before.loop.t row.result.now out.new.1.1.1.1.0
-    (entry c).requires.0.modulus.low row.ensures.0 (omega (arith, c.before.loop-test.true, c.before.before.before.mirror-count.ensures.0)) out.ensures)
+    let a = c.args in
+    let row = c.row_at-row in
+    let out = c.mirror_residues in
+    subst (Next a.d a.rows.now a.n a.z.now c.rows.i c.loop-t.t) (sym c.wide-r.ensures)
+    (mirror-next a.d a.rows.now a.n a.z.now c.rows.i c.loop-t.t row.result.now out.new.out
+    c.requires.ready.modulus.low row.ensures.0 (omega (arith, c.loop-t-test.true, c.mirror_count-t-end.ensures.0)) out.ensures)
 
 -- what is left behind it
-abbrev behind : Read → List ℕ
-behind c = let a = (entry c).args in mirrors_left a.d a.rows.now a.n a.z.now (head c).rows.i (c.before.before.loop.t + 1)
+abbrev behind : After-wide-r → List ℕ
+behind c = let a = c.args in mirrors_left a.d a.rows.now a.n a.z.now c.rows.i (c.loop-t.t + 1)
 
 -- the table has a place for it
-room : (c : Read) → c.wide2.result < length c.before.before.loop.taken
+room : (c : After-wide-r) → c.wide-r.result < length c.loop-t.taken
 room c =
-    omega (arith, (next c).below, (entry c).requires.1.0, c.before.before.loop.invariant.2, (head c).rows.invariant.3, (head c).before.before.before.clear.auto)
+    omega (arith, (next c).below, c.requires.n_in_bounds, c.loop-t.invariant.2, c.rows.invariant.3, c.clear.auto)
 
 pub rows-init : goal.rows-init
 rows-init c =
@@ -73,13 +63,13 @@ loop-t-init c =
     (omega arith, rs.invariant.1, refl, rw (← row_begins a.d a.rows.now a.n a.z.now rs.i c.rows-test.true) rs.invariant.4)
 
 pub offset_bounds-taken-r : goal.offset_bounds-taken-r
-offset_bounds-taken-r c = omega (arith, (next c).below, (entry c).requires.0.modulus.high)
+offset_bounds-taken-r c = omega (arith, (next c).below, c.requires.ready.modulus.high)
 
 pub bounds-taken-r : goal.bounds-taken-r
 bounds-taken-r c = room (goal.at.bounds-taken-r c).After-wide-r
 
 pub offset_bounds-taken-r-in-loop-t : goal.offset_bounds-taken-r-in-loop-t
-offset_bounds-taken-r-in-loop-t c = offset_bounds-taken-r (goal.at.offset_bounds-taken-r-in-loop-t c).After-wide-r
+offset_bounds-taken-r-in-loop-t c = omega (arith, (next (goal.at.offset_bounds-taken-r-in-loop-t c).After-wide-r).below, c.requires.ready.modulus.high)
 
 pub bounds-taken-r-in-loop-t : goal.bounds-taken-r-in-loop-t
 bounds-taken-r-in-loop-t c = room (goal.at.bounds-taken-r-in-loop-t c).After-wide-r
@@ -90,7 +80,7 @@ loop-t-preserved c =
       omega arith,
       l.invariant.1,
       simp length-set l.invariant.2,
-      taken_more l.true _ l.invariant.3 (behind (goal.at.loop-t-preserved c).After-wide-r) c.wide-r.result (next (goal.at.loop-t-preserved c).After-wide-r).next (room (goal.at.loop-t-preserved c).After-wide-r) c.if-taken-r-ne0.false,
+      taken_more l.taken _ l.invariant.3 (behind (goal.at.loop-t-preserved c).After-wide-r) c.wide-r.result (next (goal.at.loop-t-preserved c).After-wide-r).next (room (goal.at.loop-t-preserved c).After-wide-r) c.if-taken-r-ne0.false,
     )
 
 pub rows-preserved : goal.rows-preserved
@@ -111,7 +101,7 @@ returns-after-rows c =
     let rs = c.rows in
     let a = c.args in
     record {
-      yes = λ _. taken_all rs.true _ rs.invariant.4 (rows_end a.d a.rows.now a.n a.z.now rs.i c.rows-test.false);
+      yes = λ _. taken_all rs.taken _ rs.invariant.4 (rows_end a.d a.rows.now a.n a.z.now rs.i c.rows-test.false);
       no = λ e. absurd (true≢false (sym rs.invariant.1 ∙ e));
     }
 
@@ -120,5 +110,5 @@ returns-then-taken-r-ne0 c =
     let l = c.loop-t in
     record {
       yes = λ e. absurd (true≢false (sym e));
-      no = λ _. taken_clash l.true _ l.invariant.3 (behind (goal.at.returns-then-taken-r-ne0 c).After-wide-r) c.wide-r.result (next (goal.at.returns-then-taken-r-ne0 c).After-wide-r).next c.if-taken-r-ne0.true;
+      no = λ _. taken_clash l.taken _ l.invariant.3 (behind (goal.at.returns-then-taken-r-ne0 c).After-wide-r) c.wide-r.result (next (goal.at.returns-then-taken-r-ne0 c).After-wide-r).next c.if-taken-r-ne0.true;
     }

@@ -15,7 +15,7 @@ use Rattle.planner.proofs.mirrors.MirrorResidues.{row-ready}
 use Rattle.planner.proofs.rule.RuleIndex.{RowIntegrates, integrates-rows, row-integrates, row_breaks}
 use borrow.Author.Rules.{rules}
 use Rattle.planner.proofs.rule.integrates.Goals as goal
-use Rattle.planner.proofs.rule.integrates.Goals.{After-nonzero_mask}
+use Rattle.planner.proofs.rule.integrates.Goals.{After-nonzero_mask, then-nonzero_mask-ne0+else-row_residue-eq0, else-nonzero_mask-ne0}
 
 pub row_at-row-requires : goal.row_at-row-requires
 row_at-row-requires c =
@@ -48,7 +48,7 @@ loop-i-preserved c =
       omega arith,
       below_more (RowIntegrates (index_list a.d a.rows.now) a.n (map pos a.z.now)) c.loop-i.i c.loop-i.invariant.1
           (row-integrates a.d a.rows.now a.n a.z.now c.loop-i.i c.loop-i-test.true k.result.now k.ensures.0
-          (λ some none. ⊎_elim (λ w. w.2.left (w.1.ensures.0 ∙ none)) (λ w. some (mask_none k.result.now c.nonzero_mask.result (bits (goal.at.loop-i-preserved c).After-nonzero_mask) w.left)) c.if-nonzero_mask-ne0.branch)),
+          (λ some none. elim c.if-nonzero_mask-ne0.branch [ then-nonzero_mask-ne0+else-row_residue-eq0 w ↦ w.if-row_residue-eq0.false (w.row_residue.ensures.0 ∙ none) | else-nonzero_mask-ne0 w ↦ some (mask_none k.result.now c.nonzero_mask.result (bits (goal.at.loop-i-preserved c).After-nonzero_mask) w.if-nonzero_mask-ne0.false) ])),
     )
 
 pub returns : goal.returns

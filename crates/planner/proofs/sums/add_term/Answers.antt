@@ -51,7 +51,7 @@ slice_copy_out-sums c = omega (arith, inside c)
 
 pub overflow_add-sums : goal.overflow_add-sums
 overflow_add-sums c =
-    sum_fits (get_or c.loop-t.sums c.wide-r.result (pos 0)) c.args.a (sfits_of c.sums-1.given) c.fits.a (in_64 (goal.at.overflow_add-sums c).After-wide-r)
+    sum_fits (get_or c.loop-t.sums c.wide-r.result (pos 0)) c.args.a (sfits_of c.sums-1.given) c.ranges.a (in_64 (goal.at.overflow_add-sums c).After-wide-r)
 
 pub offset_bounds-sums-r-in-loop-t : goal.offset_bounds-sums-r-in-loop-t
 offset_bounds-sums-r-in-loop-t c = omega (arith, inside (goal.at.offset_bounds-sums-r-in-loop-t c).After-wide-r)
@@ -65,7 +65,7 @@ loop-t-preserved c =
     let x = c.wide-r.result in (
       omega arith,
       simp length-set l.invariant.1,
-      λ r. rw (sum_back (get_or l.sums x (pos 0)) c.args.a (sfits_of c.sums-1.given) c.fits.a (in_64 (goal.at.loop-t-preserved c).After-wide-r), to_z-of_z c.fits.a) (term_more c.args.a c.args.residues.now c.args.sums.now l.sums l.t (within (goal.at.loop-t-preserved c).After-wide-r) (so_far (goal.at.loop-t-preserved c).After-wide-r) x c.wide-r.ensures (omega (arith, inside (goal.at.loop-t-preserved c).After-wide-r)) r),
+      λ r. rw (sum_back (get_or l.sums x (pos 0)) c.args.a (sfits_of c.sums-1.given) c.ranges.a (in_64 (goal.at.loop-t-preserved c).After-wide-r), to_z-of_z c.ranges.a) (term_more c.args.a c.args.residues.now c.args.sums.now l.sums l.t (within (goal.at.loop-t-preserved c).After-wide-r) (so_far (goal.at.loop-t-preserved c).After-wide-r) x c.wide-r.ensures (omega (arith, inside (goal.at.loop-t-preserved c).After-wide-r)) r),
     )
 
 pub returns : goal.returns

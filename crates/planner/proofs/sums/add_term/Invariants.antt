@@ -17,7 +17,7 @@ use Rattle.planner.proofs.sums.add_term.Given as goal
 
 abbrev pub invariant-loop-t : goal.invariant-loop-t
 invariant-loop-t l =
-    (l.t ≤ l.count) × (length l.sums ≡ length l.initial.sums) × ((r : ℕ) → get_or l.sums r (pos 0) ≡ get_or l.initial.sums r (pos 0) +ℤ (to_z w64 l.a *ℤ pos (occurrences r (take l.t l.residues))))
+    (l.t ≤ l.count) × (length l.sums ≡ length l.initial.sums) × ((r : ℕ) → get_or l.sums r (pos 0) ≡ get_or l.initial.sums r (pos 0) +ℤ (l.a *ℤ pos (occurrences r (take l.t l.residues))))
 
 abbrev pub decreases-loop-t : goal.decreases-loop-t
 decreases-loop-t l = l.count - l.t

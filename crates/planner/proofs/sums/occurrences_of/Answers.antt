@@ -8,6 +8,7 @@ use borrow.Author.Rules.{rules}
 use Rattle.planner.specs.Inner.{occurrences}
 use Rattle.planner.proofs.sums.SumSteps.{occurs, occurs_not, occurs_le}
 use Rattle.planner.proofs.sums.occurrences_of.Goals as goal
+use Rattle.planner.proofs.sums.occurrences_of.Goals.{then-residues-t, else-residues-t}
 
 pub overflow_add-c : goal.overflow_add-c
 overflow_add-c c =
@@ -19,10 +20,10 @@ loop-t-preserved c =
     let xs = c.args.residues.now in
     let t = c.loop-t.t in
     let v = c.loop-t.invariant in
-    ⊎_elim
-    (λ w. (omega arith, w.1 ∙ ap (λ (k : ℕ). k + 1) v.1 ∙ sym (occurs x xs t (omega arith) w.0.taken)))
-    (λ w. (omega arith, w.1 ∙ v.1 ∙ sym (occurs_not x xs t (omega arith) w.0.left)))
-    c.if-residues-t.branch
+    elim c.if-residues-t.branch [
+      | then-residues-t w ↦ (omega arith, w.c-is ∙ ap (λ (k : ℕ). k + 1) v.1 ∙ sym (occurs x xs t (omega arith) w.if-residues-t.true))
+      | else-residues-t w ↦ (omega arith, w.c-is ∙ v.1 ∙ sym (occurs_not x xs t (omega arith) w.if-residues-t.false))
+    ]
 
 pub returns : goal.returns
 returns c =

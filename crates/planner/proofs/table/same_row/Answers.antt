@@ -23,8 +23,8 @@ pub loop-j-preserved : goal.loop-j-preserved
 loop-j-preserved c =
     let a = c.args in
     let l = c.loop-j in
-    let given = sfits_of c.t8-1.given in
-    let e = sym (to_z-of_z given) ∙ ap (to_z w16) c.if-row-j.false ∙ to_z-of_z (sfits_of c.t11-1.given) in
+    let given = sfits_of {w = w16} c.t8-1.given in
+    let e = sym (to_z-of_z given) ∙ ap (to_z w16) c.if-row-j.false ∙ to_z-of_z (sfits_of {w = w16} c.t11-1.given) in
     (omega arith, below_more (λ i. get_or a.row.now i (pos 0) ≡ get_or a.h.now i (pos 0)) l.j l.invariant.1 e)
 
 pub returns : goal.returns

@@ -9,11 +9,12 @@ use Rattle.rank1.specs.Search.{largest}
 use Rattle.planner.proofs.vectors.LargestLaws.{largest_left, largest_end}
 use borrow.Author.Rules.{rules}
 use Rattle.planner.proofs.vectors.largest_of.Goals as goal
+use Rattle.planner.proofs.vectors.largest_of.Goals.{then-top-z, else-top-z}
 
 pub loop-i-preserved : goal.loop-i-preserved
 loop-i-preserved c =
     let step = largest_left c.args.z.now c.loop-i.i (omega arith) in
-    ⊎_elim (λ w. (omega arith, omega arith)) (λ w. (omega arith, omega arith)) c.if-top-z.branch
+    elim c.if-top-z.branch [ then-top-z w ↦ (omega arith, omega arith) | else-top-z w ↦ (omega arith, omega arith) ]
 
 pub returns : goal.returns
 returns c = omega (arith, largest_end c.args.z.now c.loop-i.i (omega arith))
