@@ -1,6 +1,8 @@
 // The text form (document 01's ticket): bytes in, bytes out. A text is read, planned for by the smallest plan, and the answer's
 // text is written; a wrong text is refused by its number.
 
+#![tactic(auto)]
+
 mod reading;
 mod writing;
 
