@@ -2,6 +2,8 @@
 // refuses nothing, returns the number of the refusal, 0 for none. What a call finds beside that, yes or no or the modulus, goes to a
 // lent place, which keeps its content where the call is refused. The calls about lists alone stand in tally.rt and corners.rt.
 
+#![tactic(auto)]
+
 mod corners;
 mod tally;
 
