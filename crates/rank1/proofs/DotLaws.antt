@@ -3,7 +3,7 @@ use mathlib.Core.Path.{◌≡◌, refl, sym, ◌∙◌, ap}
 use mathlib.Core.Logic.{◌↔◌}
 use mathlib.Core.List.{List, [], ◌∷◌, map}
 use Prim.Native.Nat.{ℕ, zero, suc, ◌+◌, ◌*◌, ◌%◌, ◌<◌}
-use native.Mathlib.Nat.{mul_assoc, mul_comm, one-mul, mul-add, add_assoc, add-mod-mod, mod-add-mod}
+use native.Mathlib.Nat.{mul_assoc, mul_comm, one-mul, add_assoc, add-mod-mod, mod-add-mod}
 use native.Mathlib.Omega.{arith}
 use lib.IntN.{ℤ, pos, ◌+ℤ◌, ◌*ℤ◌, neg_ℤ, neg_ℤ-+ℤ, zero-*ℤ, *ℤ-zero, +ℤ_idl}
 use lib.ListN.{get_or, drop}

@@ -1,6 +1,5 @@
 -- `planner_gentler`: 0 where `left_wins` says yes, and else 1.
 use mathlib.Core.Path.{refl}
-use borrow.Author.Rules.{rules}
 use Rattle.exports.proofs.planner_gentler.Goals as goal
 
 pub returns-then-left_wins : goal.returns-then-left_wins

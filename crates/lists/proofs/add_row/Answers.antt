@@ -9,7 +9,6 @@ use Rattle.rank1.proofs.LongerLaws.{Longer, longer}
 use Rattle.refusal.proofs.InputLaws.{applies, applies_not}
 use Rattle.lists.proofs.RecountLaws.{counted_is, longer_is, counted_addable}
 use Rattle.lists.proofs.CallLaws.{add_refused, add_kept, add_plan, add_longer, add_record}
-use borrow.Author.Rules.{rules}
 use Rattle.lists.proofs.add_row.Goals as goal
 use Rattle.lists.proofs.add_row.Goals.{After-same_tally, Else-longer-ne0}
 

@@ -2,7 +2,6 @@
 use mathlib.Core.Path.{sym, ◌∙◌}
 use native.Mathlib.Omega.{arith}
 use Rattle.lists.proofs.CornerCalls.{placed_fits, placed_not}
-use borrow.Author.Rules.{rules}
 use Rattle.lists.proofs.copy_row.Goals as goal
 
 pub returns-then-run-at : goal.returns-then-run-at

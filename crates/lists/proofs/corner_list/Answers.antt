@@ -14,7 +14,6 @@ use Rattle.rank1.proofs.ValidLaws.{places_clear, clear_beyond}
 use Rattle.rank1.proofs.CornerLaws.{corner_rows, run_corners}
 use Rattle.lists.specs.Inner.{ValidCorners}
 use Rattle.lists.proofs.CornerCalls.{corner-axes, valid_corners, corner_early, corner-many, corner_long, corner-last, fronted_refused, fronted_given}
-use borrow.Author.Rules.{rules}
 use Rattle.lists.proofs.corner_list.Goals as goal
 use Rattle.lists.proofs.corner_list.Goals.{After-places_refusal-places, Else-corners_outside, Else-count-gt-MOST_ROWS, Else-refused-ne0, Start}
 

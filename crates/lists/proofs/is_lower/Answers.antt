@@ -5,7 +5,6 @@ use Rattle.rank1.specs.Refusal.{lower_refusal}
 use Rattle.rank1.specs.Valid.{ValidList}
 use Rattle.rank1.proofs.ValidLaws.{valid_list}
 use Rattle.lists.proofs.lower.LowerSteps.{steps_lower, lower_steps}
-use borrow.Author.Rules.{rules}
 use Rattle.lists.proofs.is_lower.Goals as goal
 use Rattle.lists.proofs.is_lower.Goals.{Else-refused-ne0}
 

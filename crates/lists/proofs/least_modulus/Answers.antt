@@ -4,7 +4,6 @@ use native.Mathlib.Omega.{arith}
 use Rattle.rank1.specs.Valid.{ValidTally}
 use Rattle.rank1.proofs.ValidLaws.{plan_clear, tally_clear}
 use Rattle.lists.proofs.CallLaws.{least_small, modulus_refused, modulus_found, modulus_plan, modulus_tally}
-use borrow.Author.Rules.{rules}
 use Rattle.lists.proofs.least_modulus.Goals as goal
 use Rattle.lists.proofs.least_modulus.Goals.{Else-kept-ne0}
 

@@ -1,12 +1,11 @@
 -- `lists::mask_of`: the bits set so far, and the components still to come that are not 0, make up the row's.
 use mathlib.Core.Path.{◌≡◌, ap}
-use mathlib.Core.Logic.{⊎_elim}
-use Prim.Native.Nat.{◌≤◌, ◌<◌, ◌+◌, ◌-◌, ◌^◌}
+use Prim.Native.Nat.{◌<◌}
 use native.Mathlib.Omega.{arith}
 use borrow.Author.Rules.{rules, sfits_of}
 use lib.Count.{ones}
 use lib.IntN.{pos}
-use lib.ListN.{length, get_or, drop, drop_of_length-le}
+use lib.ListN.{length, get_or, drop_of_length-le}
 use Rattle.rank1.specs.Index.{nonzeros}
 use Rattle.lists.proofs.MaskLaws.{bits_zero, bits_other, nonzeros_zero, nonzeros_other, mask_ones, mask_lt, pow_step}
 use Rattle.lists.proofs.mask_of.Goals as goal

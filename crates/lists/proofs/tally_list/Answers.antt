@@ -8,7 +8,6 @@ use Rattle.rank1.proofs.ValidLaws.{valid_list}
 use Rattle.rank1.proofs.BoundLaws.{valid_rows}
 use Rattle.lists.proofs.RecountLaws.{recount-summed}
 use Rattle.lists.proofs.CallLaws.{tally_refused, tally_kept, tally_plan, tally-list}
-use borrow.Author.Rules.{rules}
 use Rattle.lists.proofs.tally_list.Goals as goal
 use Rattle.lists.proofs.tally_list.Goals.{Else-listed-ne0}
 

@@ -8,7 +8,6 @@ use Rattle.rank1.specs.RuleTest.{admissible}
 use Rattle.rank1.specs.Refusal.{check_refusal}
 use Rattle.planner.specs.Answer.{check_answer}
 use Rattle.planner.proofs.CallLaws.{valid_check, verdict_yes, verdict_no, verdict_refused}
-use borrow.Author.Rules.{rules}
 use Rattle.planner.proofs.check.Goals as goal
 
 pub returns-then-refused-ne0 : goal.returns-then-refused-ne0

@@ -23,7 +23,7 @@ use Rattle.rank1.proofs.IndexLaws.{rows-length, row_at_lem, row_in, part_length,
 use Rattle.rank1.proofs.MirrorLaws.{sizes, sizes_at, mirror-sizes, Mirror, mirror_self, mirrored_in, mirrored-out, same_row_lem}
 use Rattle.rank1.proofs.SumLaws.{under_self}
 use Rattle.rank1.proofs.DifferenceLaws.{minus-swap, minus-zeros, negative-negative, difference_avoided, negative_avoided}
-use Rattle.planner.specs.Sizes.{axes, most_members, room, largest_component}
+use Rattle.planner.specs.Sizes.{axes, most_members, largest_component}
 use Rattle.planner.specs.Inner.{Covered, row_at}
 use Rattle.planner.specs.Members.{Members, MemberAt, AllMembers}
 use Rattle.planner.specs.Table.{Turns, MetPairs, PlanPairs, EitherSign, Made, Grown, RowRun, Pairable}

@@ -4,7 +4,6 @@ use mathlib.Core.Path.{refl, sym, ◌∙◌}
 use lib.ListN.{length}
 use Rattle.planner.proofs.CallLaws.{refused, given}
 use Rattle.planner.proofs.refusals.HandedLaws.{GatherHanded, gather_clear}
-use borrow.Author.Rules.{rules}
 use Rattle.planner.proofs.gather.Goals as goal
 use Rattle.planner.proofs.gather.Goals.{Else-gather_refused-ne0}
 

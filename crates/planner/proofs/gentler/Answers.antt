@@ -1,6 +1,5 @@
 -- `gentler`: the slice that is handed back is the argument itself; `left_wins` says which.
 use mathlib.Core.Path.{refl}
-use borrow.Author.Rules.{rules}
 use Rattle.planner.proofs.gentler.Goals as goal
 
 pub returns-then-left_wins : goal.returns-then-left_wins

@@ -1,6 +1,5 @@
 -- `left_wins`: by the lengths where they differ (by_length), else by the order (by_order).
 use native.Mathlib.Omega.{arith}
-use borrow.Author.Rules.{rules}
 use Rattle.rank1.proofs.WinnerLaws.{by_length, by_order}
 use Rattle.planner.proofs.left_wins.Goals as goal
 

@@ -4,7 +4,6 @@ use mathlib.Core.Path.{sym, ◌∙◌}
 use lib.ListN.{length}
 use Rattle.planner.proofs.CallLaws.{refused, given}
 use Rattle.planner.proofs.refusals.HandedLaws.{point_clear}
-use borrow.Author.Rules.{rules}
 use Rattle.planner.proofs.point_list.Goals as goal
 
 pub returns-then-points_refused-ne0 : goal.returns-then-points_refused-ne0

@@ -2,7 +2,6 @@
 -- the search of the counted list answers.
 use mathlib.Core.Path.{sym, ◌∙◌}
 use lib.ListN.{length}
-use borrow.Author.Rules.{rules}
 use Rattle.lists.proofs.AnswerLaws.{tally_kept_is, tally_refused_is}
 use Rattle.planner.proofs.SearchCalls.{refused_list, between_refused}
 use Rattle.planner.proofs.search_between.Goals as goal

@@ -3,7 +3,6 @@
 use mathlib.Core.Path.{◌≡◌}
 use lib.ListN.{length}
 use Rattle.rank1.specs.Refusal.{search_refusal}
-use borrow.Author.Rules.{rules}
 use Rattle.planner.proofs.SearchCalls.{refused_range, between_refused, between_valid, between_answered}
 use Rattle.planner.proofs.search_counted.Goals as goal
 use Rattle.planner.proofs.search_counted.Goals.{After-range_refusal-refused}

@@ -1,6 +1,5 @@
 -- `planner::search_smallest` meets its contract: the moduli that are run are those from 1 to the ceiling.
 use native.Mathlib.Omega.{arith}
-use borrow.Author.Rules.{rules}
 use Rattle.planner.proofs.SearchCalls.{smallest_search}
 use Rattle.planner.proofs.search_smallest.Goals as goal
 

@@ -1,5 +1,4 @@
 -- `planner::search_vector` meets its contract: the moduli that are run are n alone.
-use borrow.Author.Rules.{rules}
 use Rattle.planner.proofs.SearchCalls.{vector_search}
 use Rattle.planner.proofs.search_vector.Goals as goal
 

@@ -4,7 +4,6 @@ use mathlib.Core.Path.{refl, sym, ◌∙◌}
 use lib.ListN.{length}
 use Rattle.planner.proofs.CallLaws.{refused, given}
 use Rattle.planner.proofs.refusals.HandedLaws.{SpreadHanded, spread_clear}
-use borrow.Author.Rules.{rules}
 use Rattle.planner.proofs.spread.Goals as goal
 use Rattle.planner.proofs.spread.Goals.{Else-spread_refused-ne0}
 

@@ -12,7 +12,6 @@ use Rattle.rank1.specs.Tests.{any}
 use Rattle.rank1.specs.Refusal.{outside, first_of, bad_axes, bad_whole, bad_component, corner_conditions}
 use Rattle.rank1.proofs.ValidLaws.{axes_clear}
 use Rattle.refusal.proofs.InputLaws.{applies, applies_not, stops, passes, ends}
-use borrow.Author.Rules.{rules}
 use Rattle.refusal.proofs.corner_refusal.Goals as goal
 use Rattle.refusal.proofs.corner_refusal.Goals.{Else-axes-ne0, Else-corners-d-ne0}
 

@@ -1,7 +1,6 @@
 -- `refusal::list_pair_refusal` meets its contract: the first of the conditions of the list and then of the pair.
 use Rattle.rank1.specs.Refusal.{list_conditions, pair_conditions}
 use Rattle.refusal.proofs.InputLaws.{list_stops, list-passes}
-use borrow.Author.Rules.{rules}
 use Rattle.refusal.proofs.list_pair_refusal.Goals as goal
 
 pub returns-then-list-ne0 : goal.returns-then-list-ne0

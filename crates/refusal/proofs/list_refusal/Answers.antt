@@ -11,7 +11,6 @@ use Rattle.rank1.specs.Index.{index_list}
 use Rattle.rank1.specs.Refusal.{outside, repeats, first_of, bad_axes, bad_length, bad_component, equal_rows, list_conditions}
 use Rattle.rank1.proofs.ValidLaws.{axes_clear}
 use Rattle.refusal.proofs.InputLaws.{applies, applies_not, stops, passes, ends}
-use borrow.Author.Rules.{rules}
 use Rattle.refusal.proofs.list_refusal.Goals as goal
 use Rattle.refusal.proofs.list_refusal.Goals.{Else-axes-ne0, Else-length-ne0, Else-some_outside}
 

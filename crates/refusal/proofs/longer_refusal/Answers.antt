@@ -15,7 +15,6 @@ use Rattle.rank1.proofs.RefusalLaws.{first_of_none}
 use Rattle.rank1.proofs.ValidLaws.{axes_clear}
 use Rattle.rank1.proofs.LongerLaws.{lengths_longer, any_append, repeats_longer}
 use Rattle.refusal.proofs.InputLaws.{applies, applies_not, stops, passes, ends, list_stops, list-passes}
-use borrow.Author.Rules.{rules}
 use Rattle.refusal.proofs.longer_refusal.Goals as goal
 use Rattle.refusal.proofs.longer_refusal.Goals.{After-stands_among, Else-axes-ne0, Else-lengths-ne0, Else-some_outside}
 

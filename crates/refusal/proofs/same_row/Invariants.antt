@@ -1,18 +1,13 @@
 -- `refusal::same_row` meets its contract. The invariant: the two rows agree from component j on just where they agree at all.
 -- Measure: the components left.
-use mathlib.Core.Path.{◌≡◌, refl, sym, ◌∙◌, ap}
+use mathlib.Core.Path.{◌≡◌, refl}
 use mathlib.Core.Bool.{◌&&◌}
 use mathlib.Core.List.{List, ◌∷◌}
-use Prim.Native.Nat.{◌≤◌, ◌-◌, ◌+◌, zero-le}
-use native.Mathlib.Omega.{arith}
-use lib.IntN.{ℤ, pos}
-use lib.ListN.{length, get_or, take, drop}
-use mir.Syntax.{w16}
-use mir.Val.{of_z}
+use Prim.Native.Nat.{◌≤◌, ◌-◌}
+use lib.IntN.{ℤ}
+use lib.ListN.{length, take, drop}
 use Rattle.rank1.specs.Tests.{same_number, same_row}
-use Rattle.rank1.proofs.TestLaws.{decided_true, decided_false, decides_number}
-use Rattle.refusal.proofs.InputLaws.{bits_same, pair_rest, pair_all, pair_none, pair_fails, pair-more}
-use borrow.Author.Rules.{rules}
+use Rattle.refusal.proofs.InputLaws.{pair_rest}
 use Rattle.refusal.proofs.same_row.Given as goal
 
 -- a turn of `same_row`

@@ -1,14 +1,12 @@
 -- `refusal::some_at_least` meets its contract. The invariant: some component from j on is n or more just where one of all
 -- is. Measure: the components left.
-use mathlib.Core.Path.{◌≡◌, refl, sym, ◌∙◌}
-use Prim.Native.Nat.{◌≤◌, ◌-◌, zero-le}
+use mathlib.Core.Path.{refl, sym, ◌∙◌}
+use Prim.Native.Nat.{zero-le}
 use native.Mathlib.Omega.{arith}
 use borrow.Author.Tests.{le-leb, lt-leb}
 use lib.Dec.{leb}
-use lib.ListN.{length, get_or, drop}
-use Rattle.rank1.specs.Tests.{any}
+use lib.ListN.{get_or}
 use Rattle.refusal.proofs.InputLaws.{any_found, any-more, any_none}
-use borrow.Author.Rules.{rules}
 use Rattle.refusal.proofs.some_at_least.Goals as goal
 
 pub loop-j-init : goal.loop-j-init

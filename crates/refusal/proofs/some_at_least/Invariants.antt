@@ -1,14 +1,10 @@
 -- `refusal::some_at_least` meets its contract. The invariant: some component from j on is n or more just where one of all
 -- is. Measure: the components left.
-use mathlib.Core.Path.{◌≡◌, refl, sym, ◌∙◌}
-use Prim.Native.Nat.{◌≤◌, ◌-◌, zero-le}
-use native.Mathlib.Omega.{arith}
-use borrow.Author.Tests.{le-leb, lt-leb}
+use mathlib.Core.Path.{◌≡◌}
+use Prim.Native.Nat.{◌≤◌, ◌-◌}
 use lib.Dec.{leb}
-use lib.ListN.{length, get_or, drop}
+use lib.ListN.{length, drop}
 use Rattle.rank1.specs.Tests.{any}
-use Rattle.refusal.proofs.InputLaws.{any_found, any-more, any_none}
-use borrow.Author.Rules.{rules}
 use Rattle.refusal.proofs.some_at_least.Given as goal
 
 abbrev pub invariant-loop-j : goal.invariant-loop-j

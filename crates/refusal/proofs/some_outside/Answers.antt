@@ -1,18 +1,16 @@
 -- `refusal::some_outside` meets its contract. The invariant: some component from i on is outside its range just where one
 -- of the whole run is. Measure: the components left.
 use mathlib.Core.Path.{◌≡◌, refl, sym, ◌∙◌}
-use Prim.Native.Nat.{◌≤◌, ◌-◌, zero-le}
+use Prim.Native.Nat.{zero-le}
 use native.Mathlib.Omega.{arith}
 use borrow.Author.Rules.{sfits_of}
 use lib.IntN.{pos}
-use lib.ListN.{length, get_or, drop}
+use lib.ListN.{get_or}
 use mir.Syntax.{w16}
 use mir.Val.{SFits}
 use mir.Facts.{to_z-of_z}
-use Rattle.rank1.specs.Tests.{any}
 use Rattle.rank1.specs.Refusal.{outside}
 use Rattle.refusal.proofs.InputLaws.{any_found, any-more, any_none}
-use borrow.Author.Rules.{rules}
 use Rattle.refusal.proofs.some_outside.Goals as goal
 use Rattle.refusal.proofs.some_outside.Goals.{After-out_of_range}
 

@@ -1,12 +1,11 @@
 -- `refusal::some_repeated` meets its contract. The invariant: the rows that are left lie within the run, and two of them are
 -- equal just where two of all m are. Measure: the rows left.
-use mathlib.Core.Path.{◌≡◌, sym, ◌∙◌, ap, subst}
+use mathlib.Core.Path.{sym, ◌∙◌, ap, subst}
 use Prim.Native.Nat.{ℕ, ◌≤◌, ◌-◌, ◌+◌, ◌*◌, zero-le}
 use native.Mathlib.Omega.{arith}
 use lib.ListN.{length}
-use Rattle.rank1.specs.Index.{rows_of}
 use Rattle.rank1.specs.Refusal.{repeats}
-use Rattle.refusal.proofs.InputLaws.{rows_left, rows_all, rows_none, part_long, repeats-found, repeats-more, room_all, room-turn, rows-after}
+use Rattle.refusal.proofs.InputLaws.{rows_all, rows_none, part_long, repeats-found, repeats-more, room_all, room-turn, rows-after}
 use borrow.Author.Rules.{rules}
 use Rattle.refusal.proofs.some_repeated.Goals as goal
 use Rattle.refusal.proofs.some_repeated.Goals.{In-loop-i}

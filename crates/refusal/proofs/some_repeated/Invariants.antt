@@ -1,13 +1,11 @@
 -- `refusal::some_repeated` meets its contract. The invariant: the rows that are left lie within the run, and two of them are
 -- equal just where two of all m are. Measure: the rows left.
-use mathlib.Core.Path.{◌≡◌, sym, ◌∙◌, ap, subst}
-use Prim.Native.Nat.{ℕ, ◌≤◌, ◌-◌, ◌+◌, ◌*◌, zero-le}
-use native.Mathlib.Omega.{arith}
+use mathlib.Core.Path.{◌≡◌}
+use Prim.Native.Nat.{◌≤◌, ◌-◌, ◌+◌, ◌*◌}
 use lib.ListN.{length}
 use Rattle.rank1.specs.Index.{rows_of}
 use Rattle.rank1.specs.Refusal.{repeats}
-use Rattle.refusal.proofs.InputLaws.{rows_left, rows_all, rows_none, part_long, repeats-found, repeats-more, room_all, room-turn, rows-after}
-use borrow.Author.Rules.{rules}
+use Rattle.refusal.proofs.InputLaws.{rows_left}
 use Rattle.refusal.proofs.some_repeated.Given as goal
 
 abbrev pub invariant-loop-i : goal.invariant-loop-i

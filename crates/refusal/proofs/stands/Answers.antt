@@ -6,7 +6,6 @@ use native.Mathlib.Omega.{arith}
 use lib.ListN.{length}
 use Rattle.rank1.specs.Tests.{any, same_row}
 use Rattle.rank1.specs.Index.{rows_of}
-use borrow.Author.Rules.{rules}
 use Rattle.refusal.proofs.stands.Goals as goal
 
 pub returns-then-row-eq0 : goal.returns-then-row-eq0

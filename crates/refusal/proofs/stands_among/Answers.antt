@@ -1,13 +1,11 @@
 -- `refusal::stands_among` meets its contract. The invariant: the rows that are left lie within the run, and the row
 -- stands among them just where it stands among all m. Measure: the rows left.
-use mathlib.Core.Path.{◌≡◌, sym, ◌∙◌, ap}
+use mathlib.Core.Path.{sym, ◌∙◌, ap}
 use Prim.Native.Nat.{◌≤◌, ◌-◌, ◌+◌, ◌*◌, zero-le}
 use native.Mathlib.Omega.{arith}
-use lib.ListN.{length, drop}
+use lib.ListN.{length}
 use Rattle.rank1.specs.Tests.{any, same_row}
-use Rattle.rank1.specs.Index.{rows_of}
-use Rattle.refusal.proofs.InputLaws.{rows_left, rows_all, rows_none, rows-found, rows_more, room_all, room-turn}
-use borrow.Author.Rules.{rules}
+use Rattle.refusal.proofs.InputLaws.{rows_all, rows_none, rows-found, rows_more, room_all, room-turn}
 use Rattle.refusal.proofs.stands_among.Goals as goal
 use Rattle.refusal.proofs.stands_among.Goals.{In-loop-i}
 

@@ -7,7 +7,6 @@ use lib.ListN.{length}
 use Rattle.rank1.specs.Tests.{any}
 use Rattle.rank1.proofs.TestLaws.{neither}
 use Rattle.refusal.proofs.InputLaws.{applies, applies_not, or_first, or_second}
-use borrow.Author.Rules.{rules}
 use Rattle.refusal.proofs.vector_refusal.Goals as goal
 
 pub returns-then-z-d : goal.returns-then-z-d

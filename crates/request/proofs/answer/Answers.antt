@@ -2,7 +2,6 @@
 -- (answer_copied, answer_kept).
 use mathlib.Core.Path.{sym}
 use native.Mathlib.Omega.{arith}
-use borrow.Author.Rules.{rules}
 use lib.ListN.{replicate}
 use Rattle.request.proofs.CallerLaws.{answer_kept, answer_copied}
 use Rattle.request.proofs.ReplyLaws.{stands_within, stands_length}

@@ -3,7 +3,6 @@
 use mathlib.Core.Path.{◌∙◌, ap}
 use Rattle.rank1.specs.declared.Tally.{Tally}
 use Rattle.lists.specs.Answer.{add_answer}
-use borrow.Author.Rules.{rules}
 use Rattle.exports.proofs.AnswerLaws.{counted_answer}
 use Rattle.exports.proofs.tally.planner_add_row.Goals as goal
 

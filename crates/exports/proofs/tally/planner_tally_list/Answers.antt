@@ -1,5 +1,4 @@
 -- `tally::planner_tally_list` meets its contract: what is told of the call's result is told of its answer.
-use borrow.Author.Rules.{rules}
 use Rattle.exports.proofs.AnswerLaws.{counted_answer}
 use Rattle.exports.proofs.tally.planner_tally_list.Goals as goal
 

@@ -5,7 +5,6 @@ use mathlib.Core.Bool.{true, false}
 use Prim.Native.Nat.{ℕ, ◌*◌, ◌<◌, ◌≤◌, max}
 use native.Mathlib.Omega.{arith}
 use Rattle.lists.proofs.CallLaws.{least_two, least-one, least_a, least_b, least-rows}
-use borrow.Author.Rules.{rules}
 use Rattle.lists.proofs.bound.least_of.Goals as goal
 
 pub returns-then-zeros_of-m : goal.returns-then-zeros_of-m

@@ -3,7 +3,6 @@ use mathlib.Core.Path.{sym, ◌∙◌}
 use mathlib.Core.Bool.{true≢false}
 use Rattle.rank1.proofs.ValidLaws.{tally_clear}
 use Rattle.lists.proofs.CallLaws.{bad_rows, bad_size, bad_zero}
-use borrow.Author.Rules.{rules}
 use Rattle.lists.proofs.bound.tally_refusal.Goals as goal
 
 pub returns-then-tally-gt512 : goal.returns-then-tally-gt512

@@ -1,7 +1,7 @@
 -- `corners::fill` meets its contract: the first `count` rows of the list stand at the front, and the next one in `row`.
 use mathlib.Core.Path.{◌≡◌, refl, sym, ◌∙◌, ap, subst}
 use mathlib.Core.List.{List, []}
-use Prim.Native.Nat.{ℕ, ◌≤◌, ◌<◌, ◌-◌, ◌+◌, ◌*◌}
+use Prim.Native.Nat.{ℕ, ◌≤◌, ◌<◌, ◌+◌, ◌*◌}
 use native.Mathlib.Nat.{zero-mul}
 use native.Mathlib.Numerals.{add-one}
 use native.Mathlib.Omega.{arith}
@@ -18,7 +18,6 @@ use Rattle.lists.specs.Inner.{ValidCorners, Stepped}
 use Rattle.rank1.proofs.CornerLaws.{corner_rows, run_corners, at_within, first_place}
 use Rattle.lists.proofs.corners.PlaceLaws.{next_place, last-place}
 use Rattle.lists.proofs.corners.FillLaws.{fill_more, take-replicate, zero_within}
-use borrow.Author.Rules.{rules}
 use Rattle.lists.proofs.corners.fill.Goals as goal
 use Rattle.lists.proofs.corners.fill.Goals.{After-copy, After-next, At-loop-count, Start}
 

@@ -1,24 +1,11 @@
 -- `corners::fill` meets its contract: the first `count` rows of the list stand at the front, and the next one in `row`.
-use mathlib.Core.Path.{◌≡◌, refl, sym, ◌∙◌, ap, subst}
-use mathlib.Core.List.{List, []}
-use Prim.Native.Nat.{ℕ, ◌≤◌, ◌<◌, ◌-◌, ◌+◌, ◌*◌}
-use native.Mathlib.Nat.{zero-mul}
-use native.Mathlib.Numerals.{add-one}
-use native.Mathlib.Omega.{arith}
-use borrow.Author.Tests.{not-true, not-false}
-use lib.Dec.{T}
-use lib.IntN.{ℤ, pos}
-use lib.ListN.{length, get_or, take, drop}
-use lib.Seq.{length-take-le, length_front, take_at, take_all}
-use Rattle.rank1.specs.Index.{row_count, index_list}
-use Rattle.rank1.proofs.IndexLaws.{row_fits}
+use mathlib.Core.Path.{◌≡◌}
+use mathlib.Core.List.{[]}
+use Prim.Native.Nat.{◌≤◌, ◌<◌, ◌-◌, ◌*◌}
+use lib.ListN.{length, get_or, take}
+use Rattle.rank1.specs.Index.{index_list}
 use Rattle.rank1.specs.Index.{run_of}
-use Rattle.rank1.specs.Corners.{under_some, CornerList}
-use Rattle.lists.specs.Inner.{ValidCorners, Stepped}
-use Rattle.rank1.proofs.CornerLaws.{corner_rows, run_corners, at_within, first_place}
-use Rattle.lists.proofs.corners.PlaceLaws.{next_place, last-place}
-use Rattle.lists.proofs.corners.FillLaws.{fill_more, take-replicate, zero_within}
-use borrow.Author.Rules.{rules}
+use Rattle.rank1.proofs.CornerLaws.{corner_rows}
 use Rattle.lists.proofs.corners.fill.Given as goal
 
 abbrev pub invariant-loop-count : goal.invariant-loop-count

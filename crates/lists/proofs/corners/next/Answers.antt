@@ -3,7 +3,7 @@ use mathlib.Core.Path.{◌≡◌, sym, ◌∙◌, ap, subst}
 use mathlib.Core.Logic.{⊎_elim}
 use mathlib.Core.Bool.{true}
 use mathlib.Core.List.{List, Memᴰ}
-use Prim.Native.Nat.{ℕ, ◌≤◌, ◌<◌, ◌-◌, ◌*◌}
+use Prim.Native.Nat.{ℕ, ◌-◌, ◌*◌}
 use native.Mathlib.Omega.{arith}
 use borrow.Author.Rules.{sfits_of}
 use lib.Dec.{T}
@@ -20,8 +20,7 @@ use Rattle.rank1.proofs.IndexLaws.{member_length}
 use Rattle.rank1.specs.Corners.{from_zero, under_some}
 use Rattle.lists.specs.Inner.{NextRow}
 use Rattle.rank1.proofs.UnderLaws.{some_unsigned}
-use Rattle.lists.proofs.corners.NextLaws.{raised, cleared, cleared-length, cleared_none, clear_at, raised-length, before-zeros, raise_turn, component_small, some_small, last_is, next_is}
-use borrow.Author.Rules.{rules}
+use Rattle.lists.proofs.corners.NextLaws.{raised, cleared-length, cleared_none, clear_at, raised-length, before-zeros, raise_turn, component_small, some_small, last_is, next_is}
 use Rattle.lists.proofs.corners.next.Goals as goal
 use Rattle.lists.proofs.corners.next.Goals.{After-one_more, After-under_some, At-loop-j, In-loop-j, Start}
 

@@ -1,19 +1,16 @@
 -- `corners::under_at` meets its contract: the row is up to the corner from component j on just where it is up to it at all.
 use mathlib.Core.Path.{◌≡◌, refl, sym, ◌∙◌}
-use mathlib.Core.Bool.{◌&&◌}
-use mathlib.Core.List.{List, ◌∷◌}
-use Prim.Native.Nat.{◌≤◌, ◌+◌, ◌-◌, zero-le}
+use Prim.Native.Nat.{◌+◌, zero-le}
 use native.Mathlib.Omega.{arith}
 use borrow.Author.Rules.{sfits_of}
 use borrow.Author.Tests.{not-true, not-false}
-use lib.IntN.{ℤ, pos}
-use lib.ListN.{length, get_or, take, drop}
+use lib.IntN.{pos}
+use lib.ListN.{get_or}
 use mir.Syntax.{w16}
 use mir.Val.{SFits}
 use mir.Facts.{to_z-of_z}
-use Rattle.refusal.proofs.InputLaws.{pair_rest, pair_all, pair_none, pair_fails, pair-more}
+use Rattle.refusal.proofs.InputLaws.{pair_all, pair_none, pair_fails, pair-more}
 use Rattle.rank1.specs.Corners.{from_zero, under}
-use borrow.Author.Rules.{rules}
 use Rattle.lists.proofs.corners.under_at.Goals as goal
 use Rattle.lists.proofs.corners.under_at.Goals.{After-from_zero}
 use Rattle.lists.proofs.corners.under_at.Invariants.{turn}

@@ -1,19 +1,12 @@
 -- `corners::under_at` meets its contract: the row is up to the corner from component j on just where it is up to it at all.
-use mathlib.Core.Path.{◌≡◌, refl, sym, ◌∙◌}
+use mathlib.Core.Path.{◌≡◌, refl}
 use mathlib.Core.Bool.{◌&&◌}
 use mathlib.Core.List.{List, ◌∷◌}
-use Prim.Native.Nat.{◌≤◌, ◌+◌, ◌-◌, zero-le}
-use native.Mathlib.Omega.{arith}
-use borrow.Author.Rules.{sfits_of}
-use borrow.Author.Tests.{not-true, not-false}
-use lib.IntN.{ℤ, pos}
-use lib.ListN.{length, get_or, take, drop}
-use mir.Syntax.{w16}
-use mir.Val.{SFits}
-use mir.Facts.{to_z-of_z}
-use Rattle.refusal.proofs.InputLaws.{pair_rest, pair_all, pair_none, pair_fails, pair-more}
+use Prim.Native.Nat.{◌≤◌, ◌-◌}
+use lib.IntN.{ℤ}
+use lib.ListN.{length, take, drop}
+use Rattle.refusal.proofs.InputLaws.{pair_rest}
 use Rattle.rank1.specs.Corners.{from_zero, under}
-use borrow.Author.Rules.{rules}
 use Rattle.lists.proofs.corners.under_at.Given as goal
 
 -- a turn of `under`

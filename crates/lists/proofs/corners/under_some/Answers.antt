@@ -1,13 +1,11 @@
 -- `corners::under_some` meets its contract: the row is up to one of the corners that are left just where it is up to one of all m.
-use mathlib.Core.Path.{◌≡◌, sym, ◌∙◌, ap}
+use mathlib.Core.Path.{sym, ◌∙◌, ap}
 use Prim.Native.Nat.{◌≤◌, ◌-◌, ◌+◌, ◌*◌, zero-le}
 use native.Mathlib.Omega.{arith}
 use lib.ListN.{length}
 use Rattle.rank1.specs.Tests.{any}
-use Rattle.rank1.specs.Index.{rows_of}
-use Rattle.refusal.proofs.InputLaws.{rows_left, rows_all, rows_none, rows-found, rows_more, room_all, room-turn}
+use Rattle.refusal.proofs.InputLaws.{rows_all, rows_none, rows-found, rows_more, room_all, room-turn}
 use Rattle.rank1.specs.Corners.{under}
-use borrow.Author.Rules.{rules}
 use Rattle.lists.proofs.corners.under_some.Goals as goal
 use Rattle.lists.proofs.corners.under_some.Goals.{In-loop-i}
 

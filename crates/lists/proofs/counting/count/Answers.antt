@@ -1,7 +1,7 @@
 -- `counting::count` meets its contract. The invariant: the record is that of the first i rows, and the next one starts at i × d.
 use mathlib.Core.Path.{refl, subst, ◌≡◌, sym}
 use native.Mathlib.Nat.{zero-mul, suc-mul}
-use Prim.Native.Nat.{ℕ, ◌≤◌, ◌-◌, ◌+◌, ◌*◌, zero-le}
+use Prim.Native.Nat.{ℕ, ◌≤◌, ◌-◌, ◌+◌, zero-le}
 use Rattle.rank1.proofs.IndexLaws.{row_fits}
 use Rattle.lists.proofs.RecountLaws.{counted-turn, counted_addable}
 use native.Mathlib.Omega.{arith}

@@ -1,5 +1,4 @@
 -- `counting::plus` meets its contract (more_is).
-use borrow.Author.Rules.{rules}
 use Rattle.lists.proofs.RecountLaws.{more_is}
 use Rattle.lists.proofs.counting.plus.Goals as goal
 

@@ -10,7 +10,6 @@ use mir.Val.{SFits}
 use mir.Facts.{to_z-of_z}
 use Rattle.rank1.specs.Index.{index_list}
 use Rattle.lists.proofs.lower.StepLaws.{steps-negative, steps_zero, steps-lowered}
-use borrow.Author.Rules.{rules}
 use Rattle.lists.proofs.lower.component_steps.Goals as goal
 use Rattle.lists.proofs.lower.component_steps.Goals.{Start}
 

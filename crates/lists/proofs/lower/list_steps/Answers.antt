@@ -1,8 +1,8 @@
 -- `lower::list_steps` meets its contract: the rows before i pass.
-use mathlib.Core.Path.{◌≡◌, sym, ◌∙◌, ap, subst}
+use mathlib.Core.Path.{sym, ◌∙◌, ap, subst}
 use mathlib.Core.Bool.{true}
 use mathlib.Core.List.{List, []}
-use Prim.Native.Nat.{ℕ, ◌≤◌, ◌<◌, ◌+◌, ◌-◌, ◌*◌}
+use Prim.Native.Nat.{ℕ, ◌≤◌, ◌+◌, ◌*◌}
 use native.Mathlib.Nat.{zero-mul, suc-mul, div-mul-le_self, div-le_self}
 use native.Mathlib.Numerals.{add-one}
 use native.Mathlib.Omega.{arith}
@@ -15,7 +15,6 @@ use Rattle.rank1.specs.Index.{row_count, index_list}
 use Rattle.rank1.proofs.TestLaws.{false_fails}
 use Rattle.rank1.proofs.IndexLaws.{row_fits, row_at_lem, rows-length}
 use Rattle.lists.specs.Inner.{RowSteps}
-use borrow.Author.Rules.{rules}
 use Rattle.lists.proofs.lower.list_steps.Goals as goal
 use Rattle.lists.proofs.lower.list_steps.Goals.{After-row_steps, In-loop-i}
 

@@ -1,21 +1,10 @@
 -- `lower::list_steps` meets its contract: the rows before i pass.
-use mathlib.Core.Path.{◌≡◌, sym, ◌∙◌, ap, subst}
-use mathlib.Core.Bool.{true}
-use mathlib.Core.List.{List, []}
-use Prim.Native.Nat.{ℕ, ◌≤◌, ◌<◌, ◌+◌, ◌-◌, ◌*◌}
-use native.Mathlib.Nat.{zero-mul, suc-mul, div-mul-le_self, div-le_self}
-use native.Mathlib.Numerals.{add-one}
-use native.Mathlib.Omega.{arith}
-use borrow.Author.Count.{below_more}
-use borrow.Author.Tests.{not-true, not-false}
-use lib.IntN.{ℤ}
-use lib.ListN.{length, get_or, take, drop}
-use Rattle.rank1.specs.Tests.{Decides}
+use mathlib.Core.Path.{◌≡◌}
+use mathlib.Core.List.{[]}
+use Prim.Native.Nat.{ℕ, ◌≤◌, ◌<◌, ◌-◌, ◌*◌}
+use lib.ListN.{get_or}
 use Rattle.rank1.specs.Index.{row_count, index_list}
-use Rattle.rank1.proofs.TestLaws.{false_fails}
-use Rattle.rank1.proofs.IndexLaws.{row_fits, row_at_lem, rows-length}
 use Rattle.lists.specs.Inner.{RowSteps}
-use borrow.Author.Rules.{rules}
 use Rattle.lists.proofs.lower.list_steps.Given as goal
 
 abbrev pub invariant-loop-i : goal.invariant-loop-i

@@ -1,5 +1,5 @@
 -- `lower::lowered_stands` meets its contract: the row is copied, its component lowered, and the copy looked for.
-use mathlib.Core.Path.{◌≡◌, refl, sym, ◌∙◌, ap}
+use mathlib.Core.Path.{◌≡◌, sym, ◌∙◌, ap}
 use mathlib.Core.List.{List, ◌++◌}
 use Prim.Native.Nat.{ℕ, ◌+◌, ◌-◌}
 use native.Mathlib.Omega.{arith}
@@ -14,7 +14,6 @@ use Rattle.rank1.specs.Tests.{any, same_row}
 use Rattle.rank1.specs.Index.{index_list}
 use Rattle.lists.specs.Inner.{down}
 use Rattle.refusal.proofs.InputLaws.{part-row, row_long}
-use borrow.Author.Rules.{rules}
 use Rattle.lists.proofs.lower.lowered_stands.Goals as goal
 use Rattle.lists.proofs.lower.lowered_stands.Goals.{After-copy, After-one_less, Start}
 

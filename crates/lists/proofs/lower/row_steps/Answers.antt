@@ -1,7 +1,6 @@
 -- `lower::row_steps` meets its contract: the components before j pass.
 use mathlib.Core.Path.{◌≡◌, sym, ◌∙◌, ap}
 use mathlib.Core.Bool.{true}
-use Prim.Native.Nat.{ℕ, ◌≤◌, ◌<◌, ◌-◌}
 use native.Mathlib.Omega.{arith}
 use borrow.Author.Count.{below_more}
 use borrow.Author.Tests.{not-true, not-false}
@@ -12,7 +11,6 @@ use Rattle.rank1.specs.Index.{index_list}
 use Rattle.rank1.proofs.TestLaws.{false_fails}
 use Rattle.lists.specs.Inner.{steps}
 use Rattle.refusal.proofs.InputLaws.{row_long}
-use borrow.Author.Rules.{rules}
 use Rattle.lists.proofs.lower.row_steps.Goals as goal
 use Rattle.lists.proofs.lower.row_steps.Goals.{After-component_steps, Start}
 

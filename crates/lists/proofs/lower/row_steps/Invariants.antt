@@ -1,18 +1,11 @@
 -- `lower::row_steps` meets its contract: the components before j pass.
-use mathlib.Core.Path.{◌≡◌, sym, ◌∙◌, ap}
+use mathlib.Core.Path.{◌≡◌}
 use mathlib.Core.Bool.{true}
 use Prim.Native.Nat.{ℕ, ◌≤◌, ◌<◌, ◌-◌}
-use native.Mathlib.Omega.{arith}
-use borrow.Author.Count.{below_more}
-use borrow.Author.Tests.{not-true, not-false}
 use lib.IntN.{pos}
-use lib.ListN.{length, get_or, take, drop}
-use lib.Seq.{get_or-take, get_or-drop}
+use lib.ListN.{get_or, take, drop}
 use Rattle.rank1.specs.Index.{index_list}
-use Rattle.rank1.proofs.TestLaws.{false_fails}
 use Rattle.lists.specs.Inner.{steps}
-use Rattle.refusal.proofs.InputLaws.{row_long}
-use borrow.Author.Rules.{rules}
 use Rattle.lists.proofs.lower.row_steps.Given as goal
 
 abbrev pub invariant-loop-j : goal.invariant-loop-j

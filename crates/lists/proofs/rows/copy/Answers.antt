@@ -1,7 +1,7 @@
 -- `rows::copy` meets its contract: the first j numbers stand at their places, the others are as before.
 use mathlib.Core.Path.{◌≡◌, ◌∙◌, ap}
 use mathlib.Core.List.{List, ◌++◌, append_assoc}
-use Prim.Native.Nat.{◌≤◌, ◌+◌, ◌-◌, zero-le}
+use Prim.Native.Nat.{◌+◌, zero-le}
 use native.Mathlib.Numerals.{add-one}
 use native.Mathlib.Omega.{arith}
 use lib.IntN.{ℤ, pos}
@@ -11,7 +11,6 @@ use mir.Syntax.{w16}
 use mir.Val.{SFits}
 use mir.Facts.{to_z-of_z}
 use borrow.Author.Rules.{sfits_of}
-use borrow.Author.Rules.{rules}
 use Rattle.lists.proofs.rows.copy.Goals as goal
 use Rattle.lists.proofs.rows.copy.Goals.{At-loop-j}
 

@@ -3,7 +3,7 @@
 use mathlib.Core.Bool.{false≢true}
 use mathlib.Core.Path.{subst}
 use mathlib.Core.List.{List, Memᴰ}
-use Prim.Native.Nat.{ℕ, ◌*◌, ◌≤◌, ◌<◌, ◌-◌, zero-le}
+use Prim.Native.Nat.{◌*◌, zero-le}
 use native.Mathlib.Nat.{div-le_self}
 use native.Mathlib.Omega.{arith}
 use borrow.Author.Count.{below_more}
@@ -14,7 +14,6 @@ use Rattle.rank1.specs.Index.{row_count, index_list}
 use Rattle.rank1.specs.Axes.{swap}
 use Rattle.rank1.proofs.IndexLaws.{row_inside}
 use Rattle.planner.proofs.axes.AxisLaws.{rows-interchange}
-use borrow.Author.Rules.{rules}
 use Rattle.planner.proofs.axes.axes_interchange.Goals as goal
 
 pub loop-t-init : goal.loop-t-init

@@ -1,20 +1,10 @@
 -- `planner::axes::axes_interchange` meets its contract. The invariant: each row before t, exchanged, is listed. Measure: the rows
 -- left.
-use mathlib.Core.Bool.{false≢true}
-use mathlib.Core.Path.{subst}
-use mathlib.Core.List.{List, Memᴰ}
-use Prim.Native.Nat.{ℕ, ◌*◌, ◌≤◌, ◌<◌, ◌-◌, zero-le}
-use native.Mathlib.Nat.{div-le_self}
-use native.Mathlib.Omega.{arith}
-use borrow.Author.Count.{below_more}
-use borrow.Author.Tests.{not-false}
-use lib.IntN.{ℤ}
-use lib.ListN.{length, take, drop}
+use mathlib.Core.List.{Memᴰ}
+use Prim.Native.Nat.{ℕ, ◌*◌, ◌≤◌, ◌<◌, ◌-◌}
+use lib.ListN.{take, drop}
 use Rattle.rank1.specs.Index.{row_count, index_list}
 use Rattle.rank1.specs.Axes.{swap}
-use Rattle.rank1.proofs.IndexLaws.{row_inside}
-use Rattle.planner.proofs.axes.AxisLaws.{rows-interchange}
-use borrow.Author.Rules.{rules}
 use Rattle.planner.proofs.axes.axes_interchange.Given as goal
 
 abbrev pub invariant-loop-t : goal.invariant-loop-t

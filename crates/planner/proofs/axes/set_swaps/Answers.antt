@@ -1,10 +1,7 @@
 -- `planner::axes::set_swaps` meets its contract. The invariant: the axes that are marked can change places; at the start none is
 -- (`swaps_blank`). Measure: the axes left.
-use Prim.Native.Nat.{◌≤◌, ◌-◌}
 use Rattle.rank1.specs.Index.{index_list}
-use Rattle.planner.specs.Exchange.{Swaps}
 use Rattle.planner.proofs.axes.AxisLaws.{swaps_blank}
-use borrow.Author.Rules.{rules}
 use Rattle.planner.proofs.axes.set_swaps.Goals as goal
 
 pub loop-j-init : goal.loop-j-init

@@ -3,8 +3,6 @@
 use Prim.Native.Nat.{◌≤◌, ◌-◌}
 use Rattle.rank1.specs.Index.{index_list}
 use Rattle.planner.specs.Exchange.{Swaps}
-use Rattle.planner.proofs.axes.AxisLaws.{swaps_blank}
-use borrow.Author.Rules.{rules}
 use Rattle.planner.proofs.axes.set_swaps.Given as goal
 
 abbrev pub invariant-loop-j : goal.invariant-loop-j

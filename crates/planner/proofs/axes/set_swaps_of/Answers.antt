@@ -1,12 +1,9 @@
 -- `planner::axes::set_swaps_of` meets its contract. The invariant: the axes that are marked can change places (`swaps-more`).
 -- Measure: the axes left.
-use Prim.Native.Nat.{◌≤◌, ◌-◌}
 use native.Mathlib.Omega.{arith}
 use mir.Val.{bool_byte}
 use Rattle.rank1.specs.Index.{index_list}
-use Rattle.planner.specs.Exchange.{Swaps}
 use Rattle.planner.proofs.axes.AxisLaws.{mark_true, swaps-more}
-use borrow.Author.Rules.{rules}
 use Rattle.planner.proofs.axes.set_swaps_of.Goals as goal
 
 pub loop-i-preserved : goal.loop-i-preserved

@@ -2,7 +2,7 @@
 -- two exchanged. Measure: the components left.
 use mathlib.Core.Bool.{false≢true}
 use mathlib.Core.Path.{◌≡◌, sym, ◌∙◌, ap}
-use Prim.Native.Nat.{ℕ, ◌≤◌, ◌<◌, ◌-◌, zero-le}
+use Prim.Native.Nat.{ℕ, ◌<◌, zero-le}
 use native.Mathlib.Omega.{arith}
 use lib.IntN.{pos}
 use lib.ListN.{length, get_or}
@@ -10,7 +10,7 @@ use mir.Syntax.{w16}
 use mir.Val.{to_z}
 use mir.Facts.{to_z-of_z}
 use borrow.Author.Count.{below_more}
-use borrow.Author.Rules.{rules, sfits_of}
+use borrow.Author.Rules.{sfits_of}
 use Rattle.planner.specs.Exchange.{other_axis}
 use Rattle.planner.proofs.axes.AxisLaws.{other_below, swapped-row}
 use Rattle.planner.proofs.axes.swapped_row_equal.Goals as goal

@@ -1,18 +1,10 @@
 -- `planner::axes::swapped_row_equal` meets its contract. The invariant: the components before a are those of the other row with
 -- two exchanged. Measure: the components left.
-use mathlib.Core.Bool.{false≢true}
-use mathlib.Core.Path.{◌≡◌, sym, ◌∙◌, ap}
-use Prim.Native.Nat.{ℕ, ◌≤◌, ◌<◌, ◌-◌, zero-le}
-use native.Mathlib.Omega.{arith}
+use mathlib.Core.Path.{◌≡◌}
+use Prim.Native.Nat.{ℕ, ◌≤◌, ◌<◌, ◌-◌}
 use lib.IntN.{pos}
 use lib.ListN.{length, get_or}
-use mir.Syntax.{w16}
-use mir.Val.{to_z}
-use mir.Facts.{to_z-of_z}
-use borrow.Author.Count.{below_more}
-use borrow.Author.Rules.{rules, sfits_of}
 use Rattle.planner.specs.Exchange.{other_axis}
-use Rattle.planner.proofs.axes.AxisLaws.{other_below, swapped-row}
 use Rattle.planner.proofs.axes.swapped_row_equal.Given as goal
 
 abbrev pub invariant-loop-a : goal.invariant-loop-a

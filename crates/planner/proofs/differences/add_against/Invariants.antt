@@ -1,13 +1,7 @@
 -- `differences::add_against`: the invariant is that the turns before e are done. Measure: the members left.
-use mathlib.Core.Path.{refl, sym, ◌∙◌, subst}
-use mathlib.Core.List.{List}
-use Prim.Native.Nat.{ℕ, ◌+◌, ◌-◌}
-use native.Mathlib.Omega.{arith}
-use lib.IntN.{ℤ}
+use Prim.Native.Nat.{◌-◌}
 use Rattle.rank1.specs.Index.{rows_of}
-use Rattle.planner.specs.Table.{Pairs, MemberPair, Turns, Grown, Progress}
-use Rattle.planner.proofs.differences.PairLaws.{listed-less, grown-stopped, progress-none, progress-more}
-use borrow.Author.Rules.{rules}
+use Rattle.planner.specs.Table.{MemberPair, Progress}
 use Rattle.planner.proofs.differences.add_against.Given as goal
 
 abbrev pub invariant-loop-e : goal.invariant-loop-e

@@ -3,7 +3,6 @@ use mathlib.Core.Path.{sym, ◌∙◌}
 use Rattle.rank1.specs.Index.{rows_of}
 use Rattle.planner.specs.Table.{OnePair}
 use Rattle.planner.proofs.differences.PairLaws.{grown_full}
-use borrow.Author.Rules.{rules}
 use Rattle.planner.proofs.differences.add_ending.Goals as goal
 
 pub ends_at-requires : goal.ends_at-requires

@@ -1,12 +1,10 @@
 -- `differences::add_member`: nothing where the row owns the member (`grown_owned`), else the pair of the two (`grown-member`).
 use mathlib.Core.Path.{sym, ◌∙◌, subst}
-use mathlib.Core.Logic.{⊎_elim}
 use native.Mathlib.Omega.{arith}
 use Rattle.rank1.specs.Index.{rows_of}
 use Rattle.planner.specs.Sizes.{largest_component}
 use Rattle.planner.specs.Inner.{Covered}
 use Rattle.planner.proofs.differences.PairLaws.{grown_owned, grown-member}
-use borrow.Author.Rules.{rules}
 use Rattle.planner.proofs.differences.add_member.Goals as goal
 use Rattle.planner.proofs.differences.add_member.Goals.{then-plan-eq4+else-wide-owner, else-plan-eq4}
 

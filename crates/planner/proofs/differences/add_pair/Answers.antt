@@ -12,7 +12,6 @@ use Rattle.rank1.specs.Index.{rows_of}
 use Rattle.planner.specs.Table.{OnePair}
 use Rattle.planner.proofs.products.ProductLaws.{read_back}
 use Rattle.planner.proofs.differences.PairLaws.{upright_same, upright_differ, grown_same, added_full, added_table, grown-added}
-use borrow.Author.Rules.{rules}
 use Rattle.planner.proofs.differences.add_pair.Goals as goal
 use Rattle.planner.proofs.differences.add_pair.Goals.{After-add-count, Start}
 

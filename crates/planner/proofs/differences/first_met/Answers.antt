@@ -2,7 +2,6 @@
 use mathlib.Core.Path.{sym, ap}
 use mathlib.Core.Bool.{Bool}
 use Rattle.planner.specs.Table.{first_met}
-use borrow.Author.Rules.{rules}
 use Rattle.planner.proofs.differences.first_met.Goals as goal
 
 pub returns-then-behind : goal.returns-then-behind

@@ -9,7 +9,6 @@ use Rattle.rank1.specs.Index.{zero_row, rows_of}
 use Rattle.planner.specs.Sizes.{axes}
 use Rattle.planner.specs.Table.{Turns, MetPairs, Grown, RowRun, Pairable, Stored}
 use Rattle.planner.proofs.differences.PlanLaws.{run-rows, front_zeros, run-zeros, listed-members, grown-zeros, grown-members, grown-rows}
-use borrow.Author.Rules.{rules}
 use Rattle.planner.proofs.differences.pair_all.Goals as goal
 use Rattle.planner.proofs.differences.pair_all.Goals.{Start}
 

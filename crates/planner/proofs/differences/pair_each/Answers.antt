@@ -1,7 +1,7 @@
 -- `differences::pair_each`: the invariant is that the turns before i are done. Measure: the rows left.
 use mathlib.Core.Path.{refl, sym, ◌∙◌, subst}
 use mathlib.Core.List.{List}
-use Prim.Native.Nat.{ℕ, ◌+◌, ◌-◌, zero-le}
+use Prim.Native.Nat.{ℕ, ◌+◌, zero-le}
 use native.Mathlib.Omega.{arith}
 use lib.IntN.{ℤ}
 use lib.ListN.{length}
@@ -11,7 +11,6 @@ use Rattle.planner.specs.Sizes.{largest_component}
 use Rattle.planner.specs.Inner.{Covered, row_at}
 use Rattle.planner.specs.Table.{Pairs, Turns, first_met, MetPairs, Grown, Progress}
 use Rattle.planner.proofs.differences.PairLaws.{listed-less, grown-stopped, progress-none, progress-more, first_within, grown-met}
-use borrow.Author.Rules.{rules}
 use Rattle.planner.proofs.differences.pair_each.Goals as goal
 use Rattle.planner.proofs.differences.pair_each.Goals.{After-add_against-so_far, Start}
 

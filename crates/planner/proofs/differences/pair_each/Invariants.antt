@@ -1,17 +1,7 @@
 -- `differences::pair_each`: the invariant is that the turns before i are done. Measure: the rows left.
-use mathlib.Core.Path.{refl, sym, ◌∙◌, subst}
-use mathlib.Core.List.{List}
-use Prim.Native.Nat.{ℕ, ◌+◌, ◌-◌, zero-le}
-use native.Mathlib.Omega.{arith}
-use lib.IntN.{ℤ}
-use lib.ListN.{length}
+use Prim.Native.Nat.{◌-◌}
 use Rattle.rank1.specs.Index.{rows_of}
-use Rattle.rank1.proofs.IndexLaws.{row_fits}
-use Rattle.planner.specs.Sizes.{largest_component}
-use Rattle.planner.specs.Inner.{Covered, row_at}
-use Rattle.planner.specs.Table.{Pairs, Turns, first_met, MetPairs, Grown, Progress}
-use Rattle.planner.proofs.differences.PairLaws.{listed-less, grown-stopped, progress-none, progress-more, first_within, grown-met}
-use borrow.Author.Rules.{rules}
+use Rattle.planner.specs.Table.{MetPairs, Progress}
 use Rattle.planner.proofs.differences.pair_each.Given as goal
 
 abbrev pub invariant-loop-i : goal.invariant-loop-i

@@ -6,7 +6,6 @@ use Rattle.rank1.specs.Index.{zero_row}
 use Rattle.planner.specs.Sizes.{axes}
 use Rattle.planner.proofs.fill.FillLaws.{stored-begun, found-grown}
 use borrow.Author.Tests.{not-false}
-use borrow.Author.Rules.{rules}
 use Rattle.planner.proofs.fill.fill_at_once.Goals as goal
 
 pub returns-then-not-gathered : goal.returns-then-not-gathered

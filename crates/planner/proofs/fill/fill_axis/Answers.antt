@@ -5,7 +5,6 @@ use lib.Seq.{length-take-le}
 use Rattle.rank1.specs.Index.{zero_row}
 use Rattle.planner.specs.Sizes.{axes}
 use Rattle.planner.proofs.fill.FillLaws.{stored-begun, found-grown}
-use borrow.Author.Rules.{rules}
 use Rattle.planner.proofs.fill.fill_axis.Goals as goal
 
 pub slice_bounds-pair_all-end : goal.slice_bounds-pair_all-end

@@ -1,11 +1,7 @@
 -- `fill::fill_by_axes`: the invariant is that the table has differences of the list. Measure: the axes left.
-use mathlib.Core.Path.{◌≡◌, refl, ◌∙◌}
-use Prim.Native.Nat.{◌-◌}
+use mathlib.Core.Path.{refl, ◌∙◌}
 use native.Mathlib.Omega.{arith}
-use lib.ListN.{length}
-use Rattle.planner.specs.Table.{Fillable}
 use Rattle.planner.proofs.fill.FillLaws.{fillable-more}
-use borrow.Author.Rules.{rules}
 use Rattle.planner.proofs.fill.fill_by_axes.Goals as goal
 
 pub loop-axis-init : goal.loop-axis-init

@@ -1,11 +1,8 @@
 -- `fill::fill_by_axes`: the invariant is that the table has differences of the list. Measure: the axes left.
-use mathlib.Core.Path.{◌≡◌, refl, ◌∙◌}
+use mathlib.Core.Path.{◌≡◌}
 use Prim.Native.Nat.{◌-◌}
-use native.Mathlib.Omega.{arith}
 use lib.ListN.{length}
 use Rattle.planner.specs.Table.{Fillable}
-use Rattle.planner.proofs.fill.FillLaws.{fillable-more}
-use borrow.Author.Rules.{rules}
 use Rattle.planner.proofs.fill.fill_by_axes.Given as goal
 
 abbrev pub invariant-loop-axis : goal.invariant-loop-axis

@@ -2,7 +2,6 @@
 use mathlib.Core.Path.{◌∙◌}
 use Rattle.planner.proofs.members.MemberLaws.{room-stays}
 use Rattle.planner.proofs.fill.FillLaws.{fillable-empty}
-use borrow.Author.Rules.{rules}
 use Rattle.planner.proofs.fill.fill_table.Goals as goal
 
 pub fill_by_axes-requires : goal.fill_by_axes-requires

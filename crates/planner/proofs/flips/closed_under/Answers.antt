@@ -1,8 +1,8 @@
 -- `flips::closed_under`: each row before i, flipped, is in the table. Measure: the rows left.
-use mathlib.Core.Path.{◌≡◌, sym, ◌∙◌, subst}
+use mathlib.Core.Path.{sym, ◌∙◌, subst}
 use mathlib.Core.Bool.{false≢true}
 use mathlib.Core.List.{List}
-use Prim.Native.Nat.{ℕ, ◌*◌, ◌-◌, ◌<◌}
+use Prim.Native.Nat.{◌*◌}
 use native.Mathlib.Omega.{arith}
 use lib.IntN.{ℤ}
 use lib.ListN.{length, drop}
@@ -16,7 +16,6 @@ use Rattle.planner.proofs.products.ProductLaws.{covered_take, covered_drop}
 use Rattle.planner.proofs.differences.PairLaws.{either_has}
 use Rattle.planner.proofs.flips.ClosedLaws.{rows-closed}
 use borrow.Author.Count.{below_more}
-use borrow.Author.Rules.{rules}
 use borrow.Author.Tests.{not-false}
 use Rattle.planner.proofs.flips.closed_under.Goals as goal
 

@@ -1,6 +1,5 @@
 -- `flips::flip_mark`: plan 2 sees no sign (`mark-all`), a whole table that stays itself shows that the rule sees none (`mark-closed`).
 use Rattle.planner.proofs.flips.ClosedLaws.{mark-all, mark_none, mark-closed}
-use borrow.Author.Rules.{rules}
 use borrow.Author.Tests.{not-false}
 use Rattle.planner.proofs.flips.flip_mark.Goals as goal
 

@@ -1,11 +1,7 @@
 -- `flips::mark_axes`: the marks of the axes before j are right (`marked_more`). Measure: the axes left.
-use mathlib.Core.Path.{◌≡◌, refl, sym, ◌∙◌}
-use Prim.Native.Nat.{◌-◌}
+use mathlib.Core.Path.{refl, sym, ◌∙◌}
 use native.Mathlib.Omega.{arith}
-use lib.ListN.{length}
-use Rattle.planner.specs.Table.{MarkedBelow}
 use Rattle.planner.proofs.flips.ClosedLaws.{marked_more, marked_all}
-use borrow.Author.Rules.{rules}
 use Rattle.planner.proofs.flips.mark_axes.Goals as goal
 
 pub loop-j-init : goal.loop-j-init

@@ -1,11 +1,8 @@
 -- `flips::mark_axes`: the marks of the axes before j are right (`marked_more`). Measure: the axes left.
-use mathlib.Core.Path.{◌≡◌, refl, sym, ◌∙◌}
+use mathlib.Core.Path.{◌≡◌}
 use Prim.Native.Nat.{◌-◌}
-use native.Mathlib.Omega.{arith}
 use lib.ListN.{length}
 use Rattle.planner.specs.Table.{MarkedBelow}
-use Rattle.planner.proofs.flips.ClosedLaws.{marked_more, marked_all}
-use borrow.Author.Rules.{rules}
 use Rattle.planner.proofs.flips.mark_axes.Given as goal
 
 abbrev pub invariant-loop-j : goal.invariant-loop-j

@@ -14,7 +14,6 @@ use Rattle.rank1.proofs.FlipLaws.{length-flip}
 use Rattle.planner.specs.Sizes.{largest_size}
 use Rattle.planner.specs.Inner.{Covered}
 use Rattle.planner.proofs.flips.ClosedLaws.{other_fits, other_back, flip-set, covered_flip, covered_negative, whole_copied}
-use borrow.Author.Rules.{rules}
 use Rattle.planner.proofs.flips.set_flipped.Goals as goal
 use Rattle.planner.proofs.flips.set_flipped.Goals.{After-copy_row, After-h-2-1}
 

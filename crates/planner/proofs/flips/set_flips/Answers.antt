@@ -3,7 +3,6 @@ use mathlib.Core.Path.{sym}
 use lib.Seq.{length-take-le}
 use Rattle.rank1.specs.Index.{zero_row}
 use Rattle.planner.specs.Sizes.{axes}
-use borrow.Author.Rules.{rules}
 use Rattle.planner.proofs.flips.set_flips.Goals as goal
 
 pub slice_bounds-mark_axes-end : goal.slice_bounds-mark_axes-end

@@ -1,7 +1,6 @@
 -- `flips::stands`: a slot that is found and not empty has the row (`stands` of the table's laws).
 use mathlib.Core.Bool.{false≢true}
 use Rattle.planner.proofs.table.TableLaws.{stands}
-use borrow.Author.Rules.{rules}
 use Rattle.planner.proofs.flips.stands.Goals as goal
 
 pub probe-p-requires : goal.probe-p-requires

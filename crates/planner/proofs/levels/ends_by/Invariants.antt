@@ -1,17 +1,9 @@
 -- `planner::levels::ends_by` meets its contract. The invariant: the row is 0 from i on just where it is 0 from j on. Measure: the
 -- components left.
-use mathlib.Core.Path.{◌≡◌, refl, sym, ◌∙◌, ap}
+use mathlib.Core.Path.{◌≡◌}
 use Prim.Native.Nat.{◌≤◌, ◌-◌}
-use native.Mathlib.Numerals.{add-one}
-use native.Mathlib.Omega.{arith}
 use lib.ListN.{length}
-use mir.Syntax.{w16}
-use mir.Val.{to_z, of_z}
-use mir.Facts.{to_z-of_z}
-use borrow.Author.Rules.{sfits_of}
 use Rattle.planner.specs.Levels.{zero_from}
-use Rattle.planner.proofs.levels.LevelLaws.{zero_more, zero_found, zero_none}
-use borrow.Author.Rules.{rules}
 use Rattle.planner.proofs.levels.ends_by.Given as goal
 
 abbrev pub invariant-loop-i : goal.invariant-loop-i

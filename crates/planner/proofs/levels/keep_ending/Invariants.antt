@@ -1,14 +1,8 @@
 -- `planner::levels::keep_ending` meets its contract. The invariant: the numbers of the first i rows that end by axis j stand at the
 -- front of `out` (`keep-turn`). Measure: the rows left.
-use Prim.Native.Nat.{◌+◌, ◌*◌, ◌≤◌, ◌-◌, zero-le}
-use native.Mathlib.Nat.{div-le_self}
-use native.Mathlib.Numerals.{add-one}
-use native.Mathlib.Omega.{arith}
-use lib.ListN.{length}
+use Prim.Native.Nat.{◌≤◌, ◌-◌}
 use Rattle.rank1.specs.Index.{row_count}
-use Rattle.rank1.proofs.IndexLaws.{row_inside}
-use Rattle.planner.proofs.levels.LevelLaws.{Keeping, keep_none, keep-turn, keep_all}
-use borrow.Author.Rules.{rules}
+use Rattle.planner.proofs.levels.LevelLaws.{Keeping}
 use Rattle.planner.proofs.levels.keep_ending.Given as goal
 
 abbrev pub invariant-loop-i : goal.invariant-loop-i

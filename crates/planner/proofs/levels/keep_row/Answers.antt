@@ -9,7 +9,6 @@ use lib.IntN.{ℤ}
 use lib.ListN.{length, take, drop}
 use lib.Seq.{take_all}
 use Rattle.planner.specs.Levels.{zero_from}
-use borrow.Author.Rules.{rules}
 use Rattle.planner.proofs.levels.keep_row.Goals as goal
 use Rattle.planner.proofs.levels.keep_row.Goals.{After-ends_by}
 

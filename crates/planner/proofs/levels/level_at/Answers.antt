@@ -3,7 +3,6 @@ use mathlib.Core.Path.{◌≡◌, ap}
 use Prim.Native.Nat.{ℕ, ◌+◌, ◌-◌, ◌*◌}
 use native.Mathlib.Omega.{arith}
 use lib.ListN.{get_or, take, drop}
-use borrow.Author.Rules.{rules}
 use Rattle.planner.specs.Sizes.{level_room}
 use Rattle.planner.proofs.levels.level_at.Goals as goal
 

@@ -4,7 +4,6 @@ use mathlib.Core.Path.{refl, ◌∙◌}
 use Prim.Native.Nat.{◌*◌}
 use native.Mathlib.Nat.{mul-le-mul_right}
 use native.Mathlib.Omega.{arith}
-use borrow.Author.Rules.{rules}
 use Rattle.rank1.specs.Index.{rows_of, index_list}
 use Rattle.planner.specs.Sizes.{axes, room, largest_component, largest_size, slot_count}
 use Rattle.planner.proofs.CallLaws.{covered_valid}

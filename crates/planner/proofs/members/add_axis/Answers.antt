@@ -7,7 +7,6 @@ use mir.Val.{to_z}
 use mir.Facts.{to_z-of_z}
 use borrow.Author.Rules.{sfits_of}
 use Rattle.planner.proofs.members.MemberLaws.{mirror_small, room-stays, stay_same, stay-doubled, mirroring-zero, mirroring-some, mirroring-doubled}
-use borrow.Author.Rules.{rules}
 use Rattle.planner.proofs.members.add_axis.Goals as goal
 
 pub returns-then-row-axis-eq0 : goal.returns-then-row-axis-eq0

@@ -10,7 +10,6 @@ use Rattle.rank1.proofs.IndexLaws.{row_inside}
 use Rattle.planner.specs.Sizes.{most_members}
 use Rattle.planner.specs.Members.{Gathering, MembersStay, Mirroring}
 use Rattle.planner.proofs.members.MemberLaws.{member_room, room-stays, row_small, stay_same, stay_then, stay-pushed, mirroring-first, row-full, row-alone, row-mirrors, gathering-next}
-use borrow.Author.Rules.{rules}
 use Rattle.planner.proofs.members.add_mirrors.Goals as goal
 use Rattle.planner.proofs.members.add_mirrors.Goals.{After-add_signs-added, After-push_row}
 use Rattle.planner.proofs.members.add_mirrors.Lts.View as view

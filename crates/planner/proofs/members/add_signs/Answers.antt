@@ -1,11 +1,10 @@
 -- `planner::add_signs` meets its contract. The invariant: the mirrors are there for the axes passed. Measure: the axes left. Where
 -- signs are not changed on all axes, nothing says that all mirrors are there (`mirroring-some`).
 use mathlib.Core.Path.{subst}
-use Prim.Native.Nat.{ℕ, ◌-◌, ◌≤◌, zero-le}
+use Prim.Native.Nat.{ℕ, zero-le}
 use native.Mathlib.Omega.{arith}
-use Rattle.planner.specs.Members.{Mirroring, MembersStay}
+use Rattle.planner.specs.Members.{Mirroring}
 use Rattle.planner.proofs.members.MemberLaws.{stay_same, stay_then, mirroring-some}
-use borrow.Author.Rules.{rules}
 use Rattle.planner.proofs.members.add_signs.Goals as goal
 
 pub loop-axis-init : goal.loop-axis-init

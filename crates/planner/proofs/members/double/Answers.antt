@@ -1,14 +1,13 @@
 -- `planner::double` meets its contract. The invariant: i of the members stand once more behind the first count. Measure: the members left.
-use mathlib.Core.Path.{◌≡◌, refl, sym, subst}
+use mathlib.Core.Path.{refl, sym, subst}
 use mathlib.Core.List.{[]}
-use Prim.Native.Nat.{ℕ, ◌+◌, ◌-◌, ◌<◌, ◌≤◌, zero-le}
+use Prim.Native.Nat.{ℕ, ◌+◌, ◌<◌, zero-le}
 use native.Mathlib.Omega.{arith}
 use lib.ListN.{get_or, set, length-set}
 use Rattle.rank1.specs.Index.{rows_of}
 use Rattle.planner.proofs.RowLaws.{row-behind}
 use Rattle.planner.proofs.members.MemberLaws.{member_room, room-stays, doubled_none, doubled_next, doubled-more}
-use Rattle.planner.specs.Members.{MemberRoom, Doubled, SmallRow}
-use borrow.Author.Rules.{rules}
+use Rattle.planner.specs.Members.{Doubled, SmallRow}
 use Rattle.planner.proofs.members.double.Goals as goal
 
 pub loop-i-init : goal.loop-i-init

@@ -3,7 +3,7 @@
 -- numbers left.
 use mathlib.Core.Path.{◌≡◌, refl, sym, ◌∙◌, ap}
 use mathlib.Core.List.{List, []}
-use Prim.Native.Nat.{◌+◌, ◌-◌, ◌*◌, ◌≤◌, zero-le}
+use Prim.Native.Nat.{◌+◌, ◌*◌, ◌≤◌, zero-le}
 use native.Mathlib.Numerals.{add-one}
 use native.Mathlib.Omega.{arith}
 use lib.IntN.{ℤ, pos}
@@ -19,7 +19,6 @@ use Rattle.planner.proofs.products.ProductLaws.{read_back}
 use Rattle.planner.proofs.RowLaws.{row_joined, row-size, row_ends, row-component, paste_before}
 use Rattle.planner.proofs.members.MemberLaws.{flip-component}
 use borrow.Author.Rules.{sfits_of}
-use borrow.Author.Rules.{rules}
 use Rattle.planner.proofs.members.push_flipped.Goals as goal
 use Rattle.planner.proofs.members.push_flipped.Goals.{In-loop-j, Start}
 

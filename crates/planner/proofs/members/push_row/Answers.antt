@@ -2,7 +2,6 @@
 use mathlib.Core.Path.{◌∙◌, ap}
 use Prim.Native.Nat.{◌+◌, ◌*◌}
 use native.Mathlib.Omega.{arith}
-use borrow.Author.Rules.{rules}
 use lib.Seq.{paste}
 use Rattle.rank1.specs.Index.{rows_of}
 use Rattle.planner.proofs.RowLaws.{row_joined}

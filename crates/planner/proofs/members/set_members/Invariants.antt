@@ -1,11 +1,8 @@
 -- `planner::set_members` meets its contract. The invariant: the members of the first i rows are gathered. Measure: the rows left.
-use mathlib.Core.Path.{◌≡◌, refl, subst}
-use Prim.Native.Nat.{ℕ, ◌-◌, ◌≤◌, zero-le}
-use native.Mathlib.Omega.{arith}
+use mathlib.Core.Path.{◌≡◌}
+use Prim.Native.Nat.{◌-◌, ◌≤◌}
 use Rattle.rank1.specs.Index.{rows_of, row_count}
 use Rattle.planner.specs.Members.{Gathering}
-use Rattle.planner.proofs.members.MemberLaws.{gathering_none}
-use borrow.Author.Rules.{rules}
 use Rattle.planner.proofs.members.set_members.Given as goal
 
 abbrev pub invariant-loop-i : goal.invariant-loop-i

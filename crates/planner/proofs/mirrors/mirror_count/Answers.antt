@@ -6,7 +6,6 @@ use Rattle.rank1.specs.Index.{mirrors}
 use Rattle.rank1.proofs.MirrorLaws.{mirrors_some}
 use Rattle.rank1.proofs.SumLaws.{under-length}
 use Rattle.lists.proofs.MaskLaws.{on_axes_lem}
-use borrow.Author.Rules.{rules}
 use Rattle.planner.proofs.mirrors.mirror_count.Goals as goal
 
 pub returns : goal.returns

@@ -1,9 +1,9 @@
 -- `mirrors::reflect`: the first t entries stand once more behind the first count, with the step added (`Repeated`).
 use mathlib.Core.Path.{◌≡◌, sym, subst}
-use Prim.Native.Nat.{ℕ, ◌+◌, ◌-◌, ◌<◌, ◌%◌}
+use Prim.Native.Nat.{ℕ, ◌+◌, ◌<◌, ◌%◌}
 use native.Mathlib.Omega.{arith}
 use lib.ListN.{get_or}
-use Rattle.planner.proofs.mirrors.MirrorResidues.{Repeated, repeated_none, repeated_at, repeated_more}
+use Rattle.planner.proofs.mirrors.MirrorResidues.{repeated_none, repeated_at, repeated_more}
 use Rattle.planner.proofs.mirrors.reflect.Goals as goal
 
 pub loop-t-init : goal.loop-t-init

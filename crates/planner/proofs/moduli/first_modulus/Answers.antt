@@ -1,12 +1,12 @@
 -- `moduli::first_modulus`: the moduli from low to below n fail, and the tables serve the next (Ascending). Measure: the moduli left.
 use mathlib.Core.Path.{◌≡◌, sym, ◌∙◌}
 use mathlib.Core.List.{List}
-use Prim.Native.Nat.{ℕ, suc, ◌-◌}
+use Prim.Native.Nat.{ℕ}
 use native.Mathlib.Omega.{arith}
 use lib.ListN.{length}
 use Rattle.rank1.specs.Rule.{Rule}
 use Rattle.planner.specs.Stage.{ListTables, list_tables, ModulusTables, modulus_tables, Work, work, rule_of}
-use Rattle.planner.proofs.moduli.ModuliLaws.{Ascending, ascend_none, ascend-more, ascended, all_failed}
+use Rattle.planner.proofs.moduli.ModuliLaws.{ascend_none, ascend-more, ascended, all_failed}
 use Rattle.planner.proofs.moduli.first_modulus.Goals as goal
 use Rattle.planner.proofs.moduli.first_modulus.Goals.{After-gentlest_vector, At-loop-n, Start}
 

@@ -1,12 +1,9 @@
 -- `moduli::first_modulus`: the moduli from low to below n fail, and the tables serve the next (Ascending). Measure: the moduli left.
-use mathlib.Core.Path.{◌≡◌, sym, ◌∙◌}
-use mathlib.Core.List.{List}
-use Prim.Native.Nat.{ℕ, suc, ◌-◌}
-use native.Mathlib.Omega.{arith}
+use mathlib.Core.Path.{◌≡◌}
+use Prim.Native.Nat.{suc, ◌-◌}
 use lib.ListN.{length}
-use Rattle.rank1.specs.Rule.{Rule}
-use Rattle.planner.specs.Stage.{ListTables, list_tables, ModulusTables, modulus_tables, Work, work, rule_of}
-use Rattle.planner.proofs.moduli.ModuliLaws.{Ascending, ascend_none, ascend-more, ascended, all_failed}
+use Rattle.planner.specs.Stage.{list_tables, modulus_tables, work, rule_of}
+use Rattle.planner.proofs.moduli.ModuliLaws.{Ascending}
 use Rattle.planner.proofs.moduli.first_modulus.Given as goal
 
 abbrev pub invariant-loop-n : goal.invariant-loop-n

@@ -1,7 +1,6 @@
 -- `moduli::first_plan`: the moduli that counting passes over fail (all_counted), the others are run (rest-run).
 use mathlib.Core.Path.{◌∙◌, ap}
 use native.Mathlib.Omega.{arith}
-use borrow.Author.Rules.{rules}
 use Rattle.rank1.specs.Refusal.{least_refusal}
 use Rattle.lists.proofs.RecountLaws.{recount_kept}
 use Rattle.planner.proofs.moduli.ModuliLaws.{all_counted, rest-run}

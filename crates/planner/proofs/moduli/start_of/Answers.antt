@@ -1,7 +1,6 @@
 -- `moduli::start_of` meets its contract: the larger of low and the bound; a record that is not refused has one.
 use mathlib.Core.Path.{◌≡◌, sym, ◌∙◌}
 use native.Mathlib.Omega.{arith}
-use borrow.Author.Rules.{rules}
 use Rattle.rank1.specs.Tally.{least_modulus}
 use Rattle.lists.proofs.AnswerLaws.{modulus_is, modulus_none_is}
 use Rattle.planner.proofs.moduli.start_of.Goals as goal

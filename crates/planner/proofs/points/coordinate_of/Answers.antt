@@ -2,7 +2,6 @@
 use mathlib.Core.Path.{sym, ◌∙◌}
 use native.Mathlib.Omega.{arith}
 use Rattle.rank1.proofs.PointLaws.{coordinate-residue, coordinate-tent}
-use borrow.Author.Rules.{rules}
 use Rattle.planner.proofs.points.coordinate_of.Goals as goal
 
 pub returns-then-plan-lt2 : goal.returns-then-plan-lt2

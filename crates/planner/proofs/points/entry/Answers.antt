@@ -4,7 +4,6 @@ use Prim.Native.Nat.{◌*◌, ◌%◌, ◌<◌}
 use native.Mathlib.Nat.{mod-lt, mul-le-mul}
 use native.Mathlib.Omega.{arith}
 use Rattle.rank1.specs.Points.{coordinate}
-use borrow.Author.Rules.{rules}
 use Rattle.planner.specs.Sizes.{largest_modulus}
 use Rattle.planner.proofs.points.entry.Goals as goal
 use Rattle.planner.proofs.points.entry.Goals.{After-wide32-3}

@@ -2,7 +2,6 @@
 use mathlib.Core.Path.{sym}
 use native.Mathlib.Omega.{arith}
 use Rattle.rank1.proofs.PointLaws.{lines_whole, lines_half}
-use borrow.Author.Rules.{rules}
 use Rattle.planner.proofs.points.line_count.Goals as goal
 
 pub returns-then-plan-lt2 : goal.returns-then-plan-lt2

@@ -1,14 +1,11 @@
 -- `points::write_line` meets its contract. The invariant: the first j components of the line stand behind the first `at` numbers
 -- (`write_more`).
-use mathlib.Core.Path.{◌≡◌, refl, sym, ◌∙◌}
-use mathlib.Core.List.{◌++◌}
-use Prim.Native.Nat.{◌+◌, ◌-◌, ◌≤◌}
+use mathlib.Core.Path.{refl, sym, ◌∙◌}
 use native.Mathlib.Omega.{arith}
-use lib.ListN.{length, take, length-set}
+use lib.ListN.{length, length-set}
 use Rattle.rank1.specs.Points.{point_line}
 use Rattle.planner.proofs.points.PointSteps.{line-length, line_at}
 use Rattle.planner.proofs.Writing.{write_none, write_more, write_all}
-use borrow.Author.Rules.{rules}
 use Rattle.planner.proofs.points.write_line.Goals as goal
 
 pub loop-j-init : goal.loop-j-init

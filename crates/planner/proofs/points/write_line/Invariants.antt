@@ -1,14 +1,10 @@
 -- `points::write_line` meets its contract. The invariant: the first j components of the line stand behind the first `at` numbers
 -- (`write_more`).
-use mathlib.Core.Path.{◌≡◌, refl, sym, ◌∙◌}
+use mathlib.Core.Path.{◌≡◌}
 use mathlib.Core.List.{◌++◌}
 use Prim.Native.Nat.{◌+◌, ◌-◌, ◌≤◌}
-use native.Mathlib.Omega.{arith}
-use lib.ListN.{length, take, length-set}
+use lib.ListN.{length, take}
 use Rattle.rank1.specs.Points.{point_line}
-use Rattle.planner.proofs.points.PointSteps.{line-length, line_at}
-use Rattle.planner.proofs.Writing.{write_none, write_more, write_all}
-use borrow.Author.Rules.{rules}
 use Rattle.planner.proofs.points.write_line.Given as goal
 
 abbrev pub invariant-loop-j : goal.invariant-loop-j

@@ -2,7 +2,7 @@
 -- them than n (`lines_few`), which is what `write_line` asks of a line's number.
 use mathlib.Core.Path.{◌≡◌, refl, sym, ap, subst, ◌∙◌}
 use mathlib.Core.List.{◌++◌}
-use Prim.Native.Nat.{ℕ, ◌+◌, ◌-◌, ◌*◌, ◌≤◌, ◌<◌}
+use Prim.Native.Nat.{ℕ, ◌+◌, ◌*◌, ◌≤◌, ◌<◌}
 use native.Mathlib.Nat.{zero-mul, suc-mul, le_refl}
 use native.Mathlib.Numerals.{add-one}
 use native.Mathlib.Omega.{arith}
@@ -13,7 +13,6 @@ use Rattle.rank1.specs.Points.{point_line, point_lines}
 use Rattle.rank1.proofs.IndexLaws.{row_fits}
 use Rattle.rank1.proofs.PointLaws.{lines_few}
 use Rattle.planner.proofs.points.PointSteps.{points_more}
-use borrow.Author.Rules.{rules}
 use Rattle.planner.proofs.points.write_points.Goals as goal
 use Rattle.planner.proofs.points.write_points.Goals.{At-loop-i}
 

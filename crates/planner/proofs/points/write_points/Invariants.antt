@@ -1,19 +1,10 @@
 -- `points::write_points` meets its contract. The invariant: the first i lines stand at the front (`points_more`). There are no more of
 -- them than n (`lines_few`), which is what `write_line` asks of a line's number.
-use mathlib.Core.Path.{◌≡◌, refl, sym, ap, subst, ◌∙◌}
-use mathlib.Core.List.{◌++◌}
-use Prim.Native.Nat.{ℕ, ◌+◌, ◌-◌, ◌*◌, ◌≤◌, ◌<◌}
-use native.Mathlib.Nat.{zero-mul, suc-mul, le_refl}
-use native.Mathlib.Numerals.{add-one}
-use native.Mathlib.Omega.{arith}
+use mathlib.Core.Path.{◌≡◌}
+use Prim.Native.Nat.{◌-◌, ◌*◌, ◌≤◌}
 use lib.ListN.{length, take}
-use lib.Seq.{take_all}
 use Rattle.rank1.specs.Tests.{up_to}
-use Rattle.rank1.specs.Points.{point_line, point_lines}
-use Rattle.rank1.proofs.IndexLaws.{row_fits}
-use Rattle.rank1.proofs.PointLaws.{lines_few}
-use Rattle.planner.proofs.points.PointSteps.{points_more}
-use borrow.Author.Rules.{rules}
+use Rattle.rank1.specs.Points.{point_lines}
 use Rattle.planner.proofs.points.write_points.Given as goal
 
 abbrev pub invariant-loop-i : goal.invariant-loop-i

@@ -1,13 +1,11 @@
 -- `products::largest`: no component passed is larger than top (`covered_more`).
 use mathlib.Core.Path.{◌≡◌, ◌∙◌, ap}
-use Prim.Native.Nat.{ℕ, ◌-◌, ◌<◌, ◌≤◌}
-use mathlib.Core.Logic.{⊎_elim}
+use Prim.Native.Nat.{◌≤◌}
 use native.Mathlib.Omega.{arith}
 use lib.IntN.{pos, nat_abs}
-use lib.ListN.{length, get_or}
+use lib.ListN.{get_or}
 use Rattle.planner.specs.Sizes.{largest_size}
 use Rattle.planner.proofs.products.ProductLaws.{read_back, covered_all, covered_more}
-use borrow.Author.Rules.{rules}
 use Rattle.planner.proofs.products.largest.Goals as goal
 use Rattle.planner.proofs.products.largest.Goals.{then-top-size, else-top-size}
 

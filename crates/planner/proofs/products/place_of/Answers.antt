@@ -3,7 +3,6 @@ use mathlib.Core.Path.{refl}
 use native.Mathlib.Omega.{arith}
 use mir.Facts.{to_z-of_z}
 use Rattle.planner.proofs.products.ProductLaws.{read_back, place_is, place-lt, place_fits}
-use borrow.Author.Rules.{rules}
 use Rattle.planner.proofs.products.place_of.Goals as goal
 
 pub overflow_add-result : goal.overflow_add-result

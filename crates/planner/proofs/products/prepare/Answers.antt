@@ -1,13 +1,10 @@
 -- `products::prepare`: the products of the axes passed are set (`set_products`).
 use mathlib.Core.Path.{sym, ◌∙◌}
-use Prim.Native.Nat.{◌-◌, ◌≤◌, zero-le}
+use Prim.Native.Nat.{zero-le}
 use native.Mathlib.Numerals.{add-one}
 use native.Mathlib.Omega.{arith}
-use lib.ListN.{length, take}
 use lib.Seq.{take_all}
-use Rattle.planner.specs.Inner.{Products}
 use Rattle.planner.proofs.products.ProductLaws.{products_none, set_products}
-use borrow.Author.Rules.{rules}
 use Rattle.planner.proofs.products.prepare.Goals as goal
 
 pub loop-j-init : goal.loop-j-init

@@ -3,7 +3,6 @@ use native.Mathlib.Omega.{arith}
 use Rattle.planner.specs.Sizes.{largest_component, largest_size}
 use Rattle.planner.proofs.CallLaws.{ready_whole, covered_valid}
 use Rattle.planner.proofs.products.ProductLaws.{covered_wider}
-use borrow.Author.Rules.{rules}
 use Rattle.planner.proofs.products.prepare_rows.Goals as goal
 
 pub largest-requires : goal.largest-requires

@@ -1,17 +1,14 @@
 -- `products::row_residue`: the sum of the entries passed, with the residue of what is left of the row, has the residue of the
 -- row (`row-turn`).
 use mathlib.Core.Path.{◌≡◌, ◌∙◌, ap}
-use mathlib.Core.List.{map}
-use Prim.Native.Nat.{ℕ, ◌+◌, ◌-◌, ◌*◌, ◌%◌, ◌<◌, ◌≤◌}
+use Prim.Native.Nat.{ℕ, ◌+◌, ◌*◌, ◌<◌}
 use native.Mathlib.Nat.{mod-lt}
 use native.Mathlib.Omega.{arith}
 use lib.IntN.{pos}
-use lib.ListN.{length, get_or, drop}
-use Rattle.rank1.specs.Residue.{residue, dot}
-use Rattle.planner.specs.Sizes.{places, largest_modulus}
+use lib.ListN.{get_or}
+use Rattle.planner.specs.Sizes.{places}
 use Rattle.planner.specs.Inner.{place}
 use Rattle.planner.proofs.products.ProductLaws.{read_back, component_small, entry_is, entry_lt, entry_in, row_started, row-turn, row_finished}
-use borrow.Author.Rules.{rules}
 use Rattle.planner.proofs.products.row_residue.Goals as goal
 use Rattle.planner.proofs.products.row_residue.Goals.{After-place_of, After-wide32-sum}
 use Rattle.planner.proofs.products.row_residue.Lts.View as view

@@ -1,17 +1,12 @@
 -- `products::row_residue`: the sum of the entries passed, with the residue of what is left of the row, has the residue of the
 -- row (`row-turn`).
-use mathlib.Core.Path.{◌≡◌, ◌∙◌, ap}
+use mathlib.Core.Path.{◌≡◌}
 use mathlib.Core.List.{map}
-use Prim.Native.Nat.{ℕ, ◌+◌, ◌-◌, ◌*◌, ◌%◌, ◌<◌, ◌≤◌}
-use native.Mathlib.Nat.{mod-lt}
-use native.Mathlib.Omega.{arith}
+use Prim.Native.Nat.{◌+◌, ◌-◌, ◌*◌, ◌%◌, ◌≤◌}
 use lib.IntN.{pos}
-use lib.ListN.{length, get_or, drop}
+use lib.ListN.{length, drop}
 use Rattle.rank1.specs.Residue.{residue, dot}
-use Rattle.planner.specs.Sizes.{places, largest_modulus}
-use Rattle.planner.specs.Inner.{place}
-use Rattle.planner.proofs.products.ProductLaws.{read_back, component_small, entry_is, entry_lt, entry_in, row_started, row-turn, row_finished}
-use borrow.Author.Rules.{rules}
+use Rattle.planner.specs.Sizes.{largest_modulus}
 use Rattle.planner.proofs.products.row_residue.Given as goal
 
 abbrev pub invariant-loop-j : goal.invariant-loop-j

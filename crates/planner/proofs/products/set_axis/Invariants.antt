@@ -1,12 +1,8 @@
 -- `products::set_axis`: after x turns p is the residue of x v, and the products of the numbers of size below x are set
 -- (`set_more`).
-use mathlib.Core.Path.{◌≡◌, ◌∙◌}
-use Prim.Native.Nat.{◌+◌, ◌-◌, ◌*◌, ◌%◌, ◌<◌, ◌≤◌, zero-le}
-use native.Mathlib.Omega.{arith}
-use lib.ListN.{set, length-set}
-use Rattle.planner.specs.Sizes.{places, middle}
-use Rattle.planner.proofs.products.ProductLaws.{Setting, set_none, set_more, set_all, next_multiple, first_multiple}
-use borrow.Author.Rules.{rules}
+use mathlib.Core.Path.{◌≡◌}
+use Prim.Native.Nat.{◌+◌, ◌-◌, ◌*◌, ◌%◌, ◌<◌, ◌≤◌}
+use Rattle.planner.proofs.products.ProductLaws.{Setting}
 use Rattle.planner.proofs.products.set_axis.Given as goal
 
 abbrev pub invariant-loop-x : goal.invariant-loop-x

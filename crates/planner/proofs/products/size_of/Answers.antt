@@ -1,7 +1,6 @@
 -- `products::size_of`: -x below 0 (`opposite`), else x itself (`itself`).
 use mathlib.Core.Path.{◌≡◌}
 use native.Mathlib.Omega.{arith}
-use borrow.Author.Rules.{rules}
 use lib.IntN.{pos, nat_abs}
 use mir.Syntax.{w16}
 use mir.Val.{to_z, of_z}

@@ -2,7 +2,6 @@
 use mathlib.Core.List.{◌++◌}
 use Rattle.rank1.specs.Refusal.{bad_plan, list_conditions, pair_conditions, check_refusal}
 use Rattle.refusal.proofs.InputLaws.{stops, passes}
-use borrow.Author.Rules.{rules}
 use Rattle.planner.proofs.refusals.check_refusal.Goals as goal
 
 pub returns-then-named-ne0 : goal.returns-then-named-ne0

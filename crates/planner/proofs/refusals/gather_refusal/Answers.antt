@@ -6,7 +6,6 @@ use Rattle.rank1.specs.Index.{index_list}
 use Rattle.rank1.specs.Refusal.{ungatherable, spread_refusal}
 use Rattle.refusal.proofs.InputLaws.{stops, passes, ends}
 use Rattle.planner.proofs.refusals.HandedLaws.{spread_clear, gather_as_spread}
-use borrow.Author.Rules.{rules}
 use Rattle.planner.proofs.refusals.gather_refusal.Goals as goal
 
 pub returns-then-refused-ne0 : goal.returns-then-refused-ne0

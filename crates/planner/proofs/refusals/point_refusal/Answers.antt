@@ -10,7 +10,6 @@ use Rattle.rank1.specs.Refusal.{first_of, bad_plan, bad_axes, pair_conditions, b
 use Rattle.rank1.proofs.ValidLaws.{axes_clear, valid_pair}
 use Rattle.rank1.proofs.PointLaws.{lines_few}
 use Rattle.refusal.proofs.InputLaws.{stops, passes, ends, list_stops, list-passes}
-use borrow.Author.Rules.{rules}
 use Rattle.planner.specs.Sizes as sizes
 use Rattle.planner.proofs.refusals.point_refusal.Goals as goal
 use Rattle.planner.proofs.refusals.point_refusal.Goals.{Else-axes-ne0, Else-named-ne0, Start}

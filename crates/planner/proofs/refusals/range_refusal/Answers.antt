@@ -2,7 +2,6 @@
 use mathlib.Core.List.{[], ◌∷◌}
 use Rattle.rank1.specs.Refusal.{bad_modulus, bad_places}
 use Rattle.refusal.proofs.InputLaws.{stops, passes, ends}
-use borrow.Author.Rules.{rules}
 use Rattle.planner.proofs.refusals.range_refusal.Goals as goal
 
 pub returns-then-modulus-ne0 : goal.returns-then-modulus-ne0

@@ -2,7 +2,6 @@
 use mathlib.Core.Path.{sym, ap, ◌∙◌}
 use mathlib.Core.Bool.{Bool, not}
 use Rattle.rank1.specs.Refusal.{refuse}
-use borrow.Author.Rules.{rules}
 use Rattle.planner.proofs.refusals.rule_refusal.Goals as goal
 
 pub returns-then-admits : goal.returns-then-admits

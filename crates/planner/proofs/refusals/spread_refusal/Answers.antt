@@ -7,7 +7,6 @@ use native.Mathlib.Omega.{arith}
 use Rattle.rank1.specs.Index.{row_count, index_list}
 use Rattle.rank1.specs.Refusal.{first_of, table_conditions, bad_places, inadmissible, spread_refusal}
 use Rattle.refusal.proofs.InputLaws.{stops, passes, ends, list_stops, list-passes}
-use borrow.Author.Rules.{rules}
 use Rattle.planner.proofs.refusals.spread_refusal.Goals as goal
 use Rattle.planner.proofs.refusals.spread_refusal.Goals.{Else-refused-ne0, Else-room-ne0, Start}
 use Rattle.planner.proofs.refusals.spread_refusal.Lts.View as view

@@ -2,7 +2,6 @@
 use mathlib.Core.Path.{refl, sym, ap, ◌∙◌}
 use mathlib.Core.Bool.{Bool, not}
 use Rattle.rank1.specs.Refusal.{refuse}
-use borrow.Author.Rules.{rules}
 use Rattle.planner.proofs.refusals.sums_refusal.Goals as goal
 
 pub prepare_rows-requires : goal.prepare_rows-requires

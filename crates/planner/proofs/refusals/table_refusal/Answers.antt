@@ -5,7 +5,6 @@ use mathlib.Core.List.{◌++◌}
 use Rattle.rank1.specs.Refusal.{first_of, bad_map_plan, list_conditions, pair_conditions, table_conditions}
 use Rattle.refusal.proofs.InputLaws.{stops, passes}
 use Rattle.planner.proofs.CallLaws.{valid_table}
-use borrow.Author.Rules.{rules}
 use Rattle.planner.proofs.refusals.table_refusal.Goals as goal
 
 pub returns-then-named-ne0 : goal.returns-then-named-ne0

@@ -3,11 +3,10 @@
 use mathlib.Core.Path.{◌≡◌, refl, sym, ap, ◌∙◌, subst}
 use native.Mathlib.Omega.{arith}
 use lib.ListN.{length, get_or}
-use borrow.Author.Rules.{rules}
 use borrow.Author.Tests.{not-true, not-false}
-use Rattle.rank1.specs.Search.{largest, Gentlest}
+use Rattle.rank1.specs.Search.{Gentlest}
 use Rattle.planner.specs.Stage.{ListTables, list_tables, ModulusTables, modulus_tables, Work, work, rule_of, Roomy}
-use Rattle.planner.proofs.rounds.RoundLaws.{Lowering, Round, roomy-kept, round_stage, lower_more, lower_less, lower_ends}
+use Rattle.planner.proofs.rounds.RoundLaws.{Round, roomy-kept, round_stage, lower_more, lower_less, lower_ends}
 use Rattle.planner.proofs.rounds.lower.Goals as goal
 use Rattle.planner.proofs.rounds.lower.Goals.{After-below, After-complete, After-copy, At-loop-s, Start}
 use Rattle.planner.proofs.rounds.lower.Lts.View as view

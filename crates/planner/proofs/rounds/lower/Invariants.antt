@@ -1,13 +1,10 @@
 -- `rounds::lower`: the vector found last is first below some bound, and the tables serve the next round (Lowering). Measure: its largest
 -- component, which falls (lower_less). A round that finds nothing ends them at the gentlest vector (lower_ends).
-use mathlib.Core.Path.{◌≡◌, refl, sym, ap, ◌∙◌, subst}
-use native.Mathlib.Omega.{arith}
-use lib.ListN.{length, get_or}
-use borrow.Author.Rules.{rules}
-use borrow.Author.Tests.{not-true, not-false}
-use Rattle.rank1.specs.Search.{largest, Gentlest}
-use Rattle.planner.specs.Stage.{ListTables, list_tables, ModulusTables, modulus_tables, Work, work, rule_of, Roomy}
-use Rattle.planner.proofs.rounds.RoundLaws.{Lowering, Round, roomy-kept, round_stage, lower_more, lower_less, lower_ends}
+use mathlib.Core.Path.{◌≡◌}
+use lib.ListN.{length}
+use Rattle.rank1.specs.Search.{largest}
+use Rattle.planner.specs.Stage.{list_tables, modulus_tables, work, rule_of}
+use Rattle.planner.proofs.rounds.RoundLaws.{Lowering}
 use Rattle.planner.proofs.rounds.lower.Given as goal
 
 abbrev pub invariant-loop-s : goal.invariant-loop-s

@@ -6,7 +6,6 @@ use lib.IntN.{ℤ}
 use lib.ListN.{length, take, drop}
 use lib.Seq.{take-length}
 use Rattle.lists.proofs.CornerCalls.{placed_fits}
-use borrow.Author.Rules.{rules}
 use Rattle.planner.proofs.rows.copy_row.Goals as goal
 
 pub returns : goal.returns

@@ -1,6 +1,6 @@
 -- `rows::end_of`: behind j the row is 0.
 use mathlib.Core.Path.{◌≡◌, sym, ◌∙◌, ap}
-use Prim.Native.Nat.{suc, ◌-◌, ◌<◌}
+use Prim.Native.Nat.{suc, ◌-◌}
 use native.Mathlib.Omega.{arith}
 use lib.IntN.{pos}
 use mir.Syntax.{w16}
@@ -9,8 +9,6 @@ use mir.Facts.{to_z-of_z}
 use borrow.Author.Rules.{sfits_of}
 use Rattle.planner.proofs.RowLaws.{zero_beyond, zero_less}
 use lib.ListN.{length, get_or}
-use Rattle.rank1.specs.Axes.{ZeroFrom}
-use borrow.Author.Rules.{rules}
 use Rattle.planner.proofs.rows.end_of.Goals as goal
 
 pub loop-j-init : goal.loop-j-init

@@ -5,7 +5,6 @@ use mathlib.Core.List.{map}
 use lib.IntN.{pos}
 use Rattle.rank1.specs.Index.{index_list}
 use Rattle.rank1.proofs.RuleTestLaws.{rule_is}
-use borrow.Author.Rules.{rules}
 use Rattle.planner.proofs.rule.admits.Goals as goal
 
 pub prepare_rows-requires : goal.prepare_rows-requires

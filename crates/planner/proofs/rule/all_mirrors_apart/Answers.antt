@@ -1,22 +1,16 @@
 -- `rule::all_mirrors_apart` meets its contract. Both loops keep that the rule holds just where the residues left to pass are different and
 -- free in the table (TakenLaws): the rows left for the outer loop, the mirrors of row i left besides for the inner one. A clash
 -- refutes the rule, and at the end none is left.
-use mathlib.Core.Path.{◌≡◌, refl, sym, ◌∙◌, subst}
-use mathlib.Core.Bool.{true, true≢false}
-use mathlib.Core.Logic.{◌↔◌}
-use mathlib.Core.List.{List, map}
-use Prim.Native.Nat.{ℕ, ◌+◌, ◌-◌, ◌≤◌, ◌<◌}
+use mathlib.Core.Path.{refl, sym, ◌∙◌, subst}
+use mathlib.Core.Bool.{true≢false}
+use mathlib.Core.List.{List}
+use Prim.Native.Nat.{ℕ, ◌+◌, ◌<◌}
 use native.Mathlib.Omega.{arith}
-use lib.IntN.{pos}
 use lib.ListN.{length, length-set}
-use Rattle.rank1.specs.Index.{index_list}
-use Rattle.rank1.specs.Rule.{PlanA}
 use Rattle.rank1.proofs.IndexLaws.{row_inside}
-use Rattle.planner.specs.Sizes.{most_mirrors}
 use Rattle.planner.specs.Inner.{Clear}
-use Rattle.planner.proofs.rule.TakenLaws.{Untaken, Next, rows_left, mirrors_left, rows_start, row_begins, mirror-next, row_ends, rows_end, taken_more, taken_clash, taken_all}
+use Rattle.planner.proofs.rule.TakenLaws.{Next, mirrors_left, rows_start, row_begins, mirror-next, row_ends, rows_end, taken_more, taken_clash, taken_all}
 use Rattle.planner.proofs.mirrors.MirrorResidues.{row-ready}
-use borrow.Author.Rules.{rules}
 use Rattle.planner.proofs.rule.all_mirrors_apart.Goals as goal
 use Rattle.planner.proofs.rule.all_mirrors_apart.Goals.{After-wide-r, At-rows, Start}
 

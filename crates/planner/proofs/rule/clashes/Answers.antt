@@ -1,5 +1,4 @@
 -- `rule::clashes` meets its contract: each way through the code is one of the test's, by what the comparisons say.
-use borrow.Author.Rules.{rules}
 use borrow.Author.Tests.{eq-eqb, ne_eqb}
 use Rattle.planner.proofs.rule.clashes.Goals as goal
 

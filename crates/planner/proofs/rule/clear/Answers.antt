@@ -1,11 +1,7 @@
 -- `rule::clear` meets its contract: the entries passed are 0.
-use mathlib.Core.Path.{◌≡◌}
-use Prim.Native.Nat.{◌-◌, ◌≤◌}
 use native.Mathlib.Omega.{arith}
-use lib.ListN.{length, length-set}
-use Rattle.planner.specs.Inner.{Clear}
+use lib.ListN.{length-set}
 use Rattle.planner.proofs.Writing.{clear_more}
-use borrow.Author.Rules.{rules}
 use Rattle.planner.proofs.rule.clear.Goals as goal
 
 pub loop-x-preserved : goal.loop-x-preserved

@@ -1,11 +1,8 @@
 -- `rule::clear` meets its contract: the entries passed are 0.
 use mathlib.Core.Path.{◌≡◌}
 use Prim.Native.Nat.{◌-◌, ◌≤◌}
-use native.Mathlib.Omega.{arith}
-use lib.ListN.{length, length-set}
+use lib.ListN.{length}
 use Rattle.planner.specs.Inner.{Clear}
-use Rattle.planner.proofs.Writing.{clear_more}
-use borrow.Author.Rules.{rules}
 use Rattle.planner.proofs.rule.clear.Given as goal
 
 abbrev pub invariant-loop-x : goal.invariant-loop-x

@@ -1,15 +1,13 @@
 -- `rule::record_owners` meets its contract: the table has the owners among the rows passed.
-use mathlib.Core.Path.{◌≡◌, refl, ◌∙◌}
-use Prim.Native.Nat.{◌-◌, ◌≤◌}
+use mathlib.Core.Path.{refl, ◌∙◌}
 use native.Mathlib.Omega.{arith}
-use lib.ListN.{length, length-set}
+use lib.ListN.{length-set}
 use Rattle.rank1.specs.Index.{index_list}
 use Rattle.rank1.proofs.IndexLaws.{row_inside}
-use Rattle.planner.specs.Inner.{Owners, residue_of}
+use Rattle.planner.specs.Inner.{residue_of}
 use Rattle.planner.proofs.rule.OwnerLaws.{owners_none, owners_more}
 use Rattle.planner.proofs.mirrors.MirrorResidues.{row-ready}
 use Rattle.planner.proofs.rule.RuleIndex.{residue-number, recorded_all, recorded_clash}
-use borrow.Author.Rules.{rules}
 use Rattle.planner.proofs.rule.record_owners.Goals as goal
 
 pub loop-i-init : goal.loop-i-init

@@ -1,15 +1,9 @@
 -- `rule::record_owners` meets its contract: the table has the owners among the rows passed.
-use mathlib.Core.Path.{◌≡◌, refl, ◌∙◌}
+use mathlib.Core.Path.{◌≡◌}
 use Prim.Native.Nat.{◌-◌, ◌≤◌}
-use native.Mathlib.Omega.{arith}
-use lib.ListN.{length, length-set}
+use lib.ListN.{length}
 use Rattle.rank1.specs.Index.{index_list}
-use Rattle.rank1.proofs.IndexLaws.{row_inside}
 use Rattle.planner.specs.Inner.{Owners, residue_of}
-use Rattle.planner.proofs.rule.OwnerLaws.{owners_none, owners_more}
-use Rattle.planner.proofs.mirrors.MirrorResidues.{row-ready}
-use Rattle.planner.proofs.rule.RuleIndex.{residue-number, recorded_all, recorded_clash}
-use borrow.Author.Rules.{rules}
 use Rattle.planner.proofs.rule.record_owners.Given as goal
 
 abbrev pub invariant-loop-i : goal.invariant-loop-i

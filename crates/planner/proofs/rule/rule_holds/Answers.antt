@@ -1,6 +1,5 @@
 -- `rule::rule_holds` meets its contract, plan by plan.
 use native.Mathlib.Omega.{arith}
-use borrow.Author.Rules.{rules}
 use borrow.Author.Tests.{not-true, not-false}
 use Rattle.planner.proofs.rule.RuleIndex.{recorded_rows, recorded_holds, recorded_breaks}
 use Rattle.planner.proofs.rule.rule_holds.Goals as goal

@@ -1,11 +1,9 @@
 -- `search::complete`: with all components fixed the rule is checked; else the values of the component are passed one by one
 -- (passed_low, passed-free, passed_more) until one is found (found) or they end (ended). Measure: the components left.
 use mathlib.Core.Path.{refl, sym, subst}
-use mathlib.Core.Logic.{⊎_elim}
 use mathlib.Core.Bool.{Bool}
-use Prim.Native.Nat.{ℕ, ◌+◌, ◌-◌, ◌<◌, ◌≤◌}
+use Prim.Native.Nat.{ℕ, ◌+◌, ◌<◌}
 use native.Mathlib.Omega.{arith}
-use borrow.Author.Rules.{rules}
 use lib.ListN.{length}
 use Rattle.rank1.specs.Rule.{Rule}
 use Rattle.planner.specs.Stage.{ListTables, list_tables, ModulusTables, modulus_tables, Work, work, rule_of, Prefixed, SumsTo, Stage, KeptBefore, Completed}

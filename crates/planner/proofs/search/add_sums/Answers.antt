@@ -3,7 +3,6 @@
 use mathlib.Core.Path.{subst, sym}
 use Prim.Native.Nat.{ℕ, ◌+◌, ◌-◌, ◌*◌}
 use native.Mathlib.Omega.{arith}
-use borrow.Author.Rules.{rules}
 use lib.ListN.{get_or}
 use Rattle.planner.specs.Sizes.{lasts}
 use Rattle.planner.specs.Sieve.{Readable}

@@ -1,9 +1,6 @@
 -- `search::ends_hold`: the rule on the rows that end there is decided, and where it fails nothing begins so (ends_decided).
 use mathlib.Core.Path.{sym, ◌∙◌}
 use mathlib.Core.Bool.{true≢false}
-use native.Mathlib.Omega.{arith}
-use lib.Seq.{length-take-le}
-use borrow.Author.Rules.{rules}
 use Rattle.planner.proofs.search.EndLaws.{ends_place, ends_room, ends_ready, ends_unsigned, ends_decided}
 use Rattle.planner.proofs.search.ends_hold.Goals as goal
 

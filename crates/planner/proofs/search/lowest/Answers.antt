@@ -1,9 +1,7 @@
 -- `search::lowest`: the start of the first component; of a later one what was found among the axes before i. Measure: the axes left.
 use mathlib.Core.Path.{refl}
-use Prim.Native.Nat.{◌-◌, ◌≤◌}
 use native.Mathlib.Omega.{arith}
-use borrow.Author.Rules.{rules}
-use Rattle.planner.specs.Stage.{Lowest, nothing, started}
+use Rattle.planner.specs.Stage.{nothing, started}
 use Rattle.planner.proofs.search.ValueLaws.{lowest_more}
 use Rattle.planner.proofs.search.lowest.Goals as goal
 

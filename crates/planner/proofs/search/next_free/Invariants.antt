@@ -1,11 +1,7 @@
 -- `search::next_free`: the values from `from` to before v are struck. Measure: the values left.
-use mathlib.Core.Path.{◌≡◌, sym, ap, ◌∙◌}
 use mathlib.Core.Logic.{◌≢◌}
 use Prim.Native.Nat.{ℕ, ◌+◌, ◌-◌, ◌≤◌, ◌<◌}
-use native.Mathlib.Omega.{arith}
-use borrow.Author.Rules.{rules}
 use lib.ListN.{get_or}
-use Rattle.planner.proofs.search.ValueLaws.{free_more}
 use Rattle.planner.proofs.search.next_free.Given as goal
 
 abbrev pub invariant-loop-v : goal.invariant-loop-v

@@ -7,7 +7,6 @@ use Rattle.planner.specs.Sieve.{TablesTo}
 use Rattle.planner.specs.Sizes.{solution_room}
 use Rattle.planner.proofs.sieve.Parts.{cut-size, pasted}
 use Rattle.planner.proofs.sieve.SolutionLaws.{tables_full, tables_more}
-use borrow.Author.Rules.{rules}
 use Rattle.planner.proofs.sieve.add_table.Goals as goal
 
 pub returns-then-end-gt-SOLUTION_ROOM : goal.returns-then-end-gt-SOLUTION_ROOM

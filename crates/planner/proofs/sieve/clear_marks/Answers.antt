@@ -1,10 +1,8 @@
 -- `sieve::clear_marks`: the places before v are 0.
-use mathlib.Core.Path.{◌≡◌, refl}
-use Prim.Native.Nat.{ℕ, ◌-◌, ◌<◌, ◌≤◌}
+use mathlib.Core.Path.{refl}
 use native.Mathlib.Omega.{arith}
-use lib.ListN.{length, get_or, length-set}
+use lib.ListN.{length-set}
 use Rattle.planner.proofs.Writing.{stored_more}
-use borrow.Author.Rules.{rules}
 use Rattle.planner.proofs.sieve.clear_marks.Goals as goal
 
 pub loop-v-init : goal.loop-v-init

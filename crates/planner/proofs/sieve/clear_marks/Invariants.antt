@@ -1,10 +1,7 @@
 -- `sieve::clear_marks`: the places before v are 0.
-use mathlib.Core.Path.{◌≡◌, refl}
+use mathlib.Core.Path.{◌≡◌}
 use Prim.Native.Nat.{ℕ, ◌-◌, ◌<◌, ◌≤◌}
-use native.Mathlib.Omega.{arith}
-use lib.ListN.{length, get_or, length-set}
-use Rattle.planner.proofs.Writing.{stored_more}
-use borrow.Author.Rules.{rules}
+use lib.ListN.{length, get_or}
 use Rattle.planner.proofs.sieve.clear_marks.Given as goal
 
 abbrev pub invariant-loop-v : goal.invariant-loop-v

@@ -1,10 +1,7 @@
 -- `planner::mark_steps`: w is a number of steps behind v, and so is each mark.
-use Prim.Native.Nat.{◌-◌}
 use native.Mathlib.Omega.{arith}
-use Rattle.planner.specs.Sieve.{Steps, Marking}
 use Rattle.planner.proofs.sieve.SieveLaws.{marking_none, marking_more}
 use Rattle.planner.proofs.sieve.SolutionLaws.{steps_none, steps-more}
-use borrow.Author.Rules.{rules}
 use Rattle.planner.proofs.sieve.mark_steps.Goals as goal
 
 pub loop-w-init : goal.loop-w-init

@@ -1,10 +1,6 @@
 -- `planner::mark_steps`: w is a number of steps behind v, and so is each mark.
 use Prim.Native.Nat.{◌-◌}
-use native.Mathlib.Omega.{arith}
 use Rattle.planner.specs.Sieve.{Steps, Marking}
-use Rattle.planner.proofs.sieve.SieveLaws.{marking_none, marking_more}
-use Rattle.planner.proofs.sieve.SolutionLaws.{steps_none, steps-more}
-use borrow.Author.Rules.{rules}
 use Rattle.planner.proofs.sieve.mark_steps.Given as goal
 
 abbrev pub invariant-loop-w : goal.invariant-loop-w

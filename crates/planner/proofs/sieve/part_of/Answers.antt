@@ -5,7 +5,6 @@ use lib.IntN.{pos}
 use lib.ListN.{get_or}
 use Rattle.planner.specs.Inner.{place}
 use Rattle.planner.proofs.products.ProductLaws.{read_back}
-use borrow.Author.Rules.{rules}
 use Rattle.planner.proofs.sieve.part_of.Goals as goal
 use Rattle.planner.proofs.sieve.part_of.Goals.{After-place_of}
 

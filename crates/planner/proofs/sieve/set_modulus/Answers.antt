@@ -1,10 +1,7 @@
 -- `planner::set_modulus`: from no table at all, the tables set so far are right (`TablesTo`).
-use mathlib.Core.Path.{◌≡◌, refl, ◌∙◌, sym}
-use Prim.Native.Nat.{◌+◌, ◌-◌, ◌≤◌}
+use mathlib.Core.Path.{refl, ◌∙◌, sym}
 use native.Mathlib.Omega.{arith}
-use Rattle.planner.specs.Sieve.{TablesTo}
 use Rattle.planner.proofs.sieve.SolutionLaws.{tables_none}
-use borrow.Author.Rules.{rules}
 use Rattle.planner.proofs.sieve.set_modulus.Goals as goal
 
 pub loop-t-init : goal.loop-t-init

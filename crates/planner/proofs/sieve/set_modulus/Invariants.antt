@@ -1,10 +1,7 @@
 -- `planner::set_modulus`: from no table at all, the tables set so far are right (`TablesTo`).
-use mathlib.Core.Path.{◌≡◌, refl, ◌∙◌, sym}
+use mathlib.Core.Path.{◌≡◌}
 use Prim.Native.Nat.{◌+◌, ◌-◌, ◌≤◌}
-use native.Mathlib.Omega.{arith}
 use Rattle.planner.specs.Sieve.{TablesTo}
-use Rattle.planner.proofs.sieve.SolutionLaws.{tables_none}
-use borrow.Author.Rules.{rules}
 use Rattle.planner.proofs.sieve.set_modulus.Given as goal
 
 abbrev pub invariant-loop-t : goal.invariant-loop-t

@@ -1,10 +1,8 @@
 -- `planner::set_none`: the places before c are n.
-use mathlib.Core.Path.{◌≡◌, refl}
-use Prim.Native.Nat.{ℕ, ◌-◌, ◌<◌, ◌≤◌}
+use mathlib.Core.Path.{refl}
 use native.Mathlib.Omega.{arith}
-use lib.ListN.{length, get_or, length-set}
+use lib.ListN.{length-set}
 use Rattle.planner.proofs.Writing.{stored_more}
-use borrow.Author.Rules.{rules}
 use Rattle.planner.proofs.sieve.set_none.Goals as goal
 
 pub loop-c-init : goal.loop-c-init

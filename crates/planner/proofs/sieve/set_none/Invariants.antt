@@ -1,10 +1,7 @@
 -- `planner::set_none`: the places before c are n.
-use mathlib.Core.Path.{◌≡◌, refl}
+use mathlib.Core.Path.{◌≡◌}
 use Prim.Native.Nat.{ℕ, ◌-◌, ◌<◌, ◌≤◌}
-use native.Mathlib.Omega.{arith}
-use lib.ListN.{length, get_or, length-set}
-use Rattle.planner.proofs.Writing.{stored_more}
-use borrow.Author.Rules.{rules}
+use lib.ListN.{length, get_or}
 use Rattle.planner.proofs.sieve.set_none.Given as goal
 
 abbrev pub invariant-loop-c : goal.invariant-loop-c

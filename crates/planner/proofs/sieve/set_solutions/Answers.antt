@@ -1,12 +1,10 @@
 -- `planner::set_solutions`: c is the residue of -t v, so v is a solution for it (`next_solves`).
 use mathlib.Core.Path.{◌≡◌, refl, sym, ◌∙◌, ap}
-use Prim.Native.Nat.{ℕ, ◌+◌, ◌-◌, ◌*◌, ◌%◌, ◌<◌, ◌≤◌, zero-le}
+use Prim.Native.Nat.{ℕ, ◌+◌, ◌*◌, ◌%◌, zero-le}
 use native.Mathlib.Nat.{mul-one, add-mod-mod, mod-lt, mul-mod_left}
 use native.Mathlib.Omega.{arith}
 use lib.ListN.{length, length-set}
-use Rattle.planner.specs.Sieve.{Solutions}
 use Rattle.planner.proofs.sieve.SolutionLaws.{solutions_none, solutions_more, negative_sum, zero_solves, next_solves, period}
-use borrow.Author.Rules.{rules}
 use Rattle.planner.proofs.sieve.set_solutions.Goals as goal
 use Rattle.planner.proofs.sieve.set_solutions.Goals.{After-negative-down, At-loop-v}
 

@@ -5,7 +5,6 @@ use native.Mathlib.Omega.{arith}
 use Rattle.planner.specs.Sizes.{largest_modulus}
 use Rattle.planner.proofs.sieve.Parts.{cut-size}
 use Rattle.planner.proofs.sieve.SieveLaws.{sieved}
-use borrow.Author.Rules.{rules}
 use Rattle.planner.proofs.sieve.sieve.Goals as goal
 
 pub returns : goal.returns

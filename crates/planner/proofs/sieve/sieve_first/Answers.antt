@@ -1,9 +1,6 @@
 -- `sieve::sieve_first`: from no mark at all, each run's marks are forbidden (`first_more`).
-use mathlib.Core.Path.{◌≡◌, refl, ◌∙◌}
-use Prim.Native.Nat.{◌+◌, ◌-◌, ◌≤◌}
+use mathlib.Core.Path.{refl, ◌∙◌}
 use native.Mathlib.Omega.{arith}
-use borrow.Author.Rules.{rules}
-use Rattle.planner.specs.Sieve.{FirstBarred}
 use Rattle.planner.proofs.sieve.FirstSieve.{first_less, first_none, first_more, first_all}
 use Rattle.planner.proofs.sieve.sieve_first.Goals as goal
 

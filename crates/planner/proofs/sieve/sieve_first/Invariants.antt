@@ -1,10 +1,7 @@
 -- `sieve::sieve_first`: from no mark at all, each run's marks are forbidden (`first_more`).
-use mathlib.Core.Path.{◌≡◌, refl, ◌∙◌}
+use mathlib.Core.Path.{◌≡◌}
 use Prim.Native.Nat.{◌+◌, ◌-◌, ◌≤◌}
-use native.Mathlib.Omega.{arith}
-use borrow.Author.Rules.{rules}
 use Rattle.planner.specs.Sieve.{FirstBarred}
-use Rattle.planner.proofs.sieve.FirstSieve.{first_less, first_none, first_more, first_all}
 use Rattle.planner.proofs.sieve.sieve_first.Given as goal
 
 abbrev pub invariant-loop-t : goal.invariant-loop-t

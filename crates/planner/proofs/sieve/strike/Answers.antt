@@ -2,7 +2,6 @@
 use mathlib.Core.Path.{subst}
 use Prim.Native.Nat.{ℕ}
 use Rattle.planner.specs.Sieve.{SolutionsSet}
-use borrow.Author.Rules.{rules}
 use Rattle.planner.proofs.sieve.strike.Goals as goal
 
 pub strike_single-requires : goal.strike_single-requires

@@ -4,7 +4,6 @@ use native.Mathlib.Numerals.{add-one}
 use mathlib.Core.Path.{subst}
 use Prim.Native.Nat.{ℕ, ◌<◌}
 use lib.ListN.{get_or}
-use borrow.Author.Rules.{rules}
 use Rattle.planner.proofs.sieve.FirstSieve.{first_none, first-marked}
 use Rattle.planner.proofs.sieve.strike_first.Goals as goal
 

@@ -5,7 +5,6 @@ use native.Mathlib.Omega.{arith}
 use lib.ListN.{get_or}
 use Rattle.planner.specs.Sieve.{TableAt}
 use Rattle.planner.proofs.sieve.SieveLaws.{run-ready, run_bars, table-cut, barred_none}
-use borrow.Author.Rules.{rules}
 use Rattle.planner.proofs.sieve.strike_run.Goals as goal
 use Rattle.planner.proofs.sieve.strike_run.Goals.{After-wide}
 

@@ -1,12 +1,10 @@
 -- `planner::strike_single`: the mark of a turn is a solution of a difference of the run (`struck_more`), or mark n.
 use mathlib.Core.Path.{◌≡◌, ◌∙◌, ap}
-use Prim.Native.Nat.{ℕ, ◌≤◌, ◌-◌}
+use Prim.Native.Nat.{ℕ}
 use native.Mathlib.Omega.{arith}
-use lib.ListN.{length, get_or, set}
-use Rattle.planner.specs.Sieve.{Struck}
+use lib.ListN.{get_or, set}
 use Rattle.planner.proofs.sieve.SieveLaws.{marking_none, marking_more, struck_none, struck_more}
 use Rattle.planner.proofs.sieve.SolutionLaws.{steps_none}
-use borrow.Author.Rules.{rules}
 use Rattle.planner.proofs.sieve.strike_single.Goals as goal
 use Rattle.planner.proofs.sieve.strike_single.Goals.{After-wide-in-loop-i}
 

@@ -1,11 +1,9 @@
 -- `planner::strike_steps`: the marks of a turn are solutions of a difference of the run (`struck_more`).
 use mathlib.Core.Path.{ap}
-use Prim.Native.Nat.{ℕ, ◌≤◌, ◌-◌}
+use Prim.Native.Nat.{ℕ}
 use native.Mathlib.Omega.{arith}
-use lib.ListN.{length, get_or}
-use Rattle.planner.specs.Sieve.{Struck}
+use lib.ListN.{get_or}
 use Rattle.planner.proofs.sieve.SieveLaws.{struck_none, struck_more}
-use borrow.Author.Rules.{rules}
 use Rattle.planner.proofs.sieve.strike_steps.Goals as goal
 
 pub loop-i-init : goal.loop-i-init

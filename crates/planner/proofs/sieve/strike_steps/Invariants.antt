@@ -1,11 +1,7 @@
 -- `planner::strike_steps`: the marks of a turn are solutions of a difference of the run (`struck_more`).
-use mathlib.Core.Path.{ap}
-use Prim.Native.Nat.{ℕ, ◌≤◌, ◌-◌}
-use native.Mathlib.Omega.{arith}
-use lib.ListN.{length, get_or}
+use Prim.Native.Nat.{◌≤◌, ◌-◌}
+use lib.ListN.{length}
 use Rattle.planner.specs.Sieve.{Struck}
-use Rattle.planner.proofs.sieve.SieveLaws.{struck_none, struck_more}
-use borrow.Author.Rules.{rules}
 use Rattle.planner.proofs.sieve.strike_steps.Given as goal
 
 abbrev pub invariant-loop-i : goal.invariant-loop-i

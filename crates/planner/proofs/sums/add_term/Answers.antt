@@ -1,9 +1,9 @@
 -- `sums::add_term` meets its contract. The invariant: at each place a has been added as often as it occurs among the first t
 -- residues. `Addable` keeps the sums in 64 bits.
 use mathlib.Core.Path.{◌≡◌, refl}
-use Prim.Native.Nat.{ℕ, zero-le, ◌≤◌, ◌<◌, ◌-◌}
+use Prim.Native.Nat.{ℕ, zero-le, ◌<◌}
 use native.Mathlib.Omega.{arith}
-use borrow.Author.Rules.{rules, sfits_of}
+use borrow.Author.Rules.{sfits_of}
 use lib.IntN.{pos, ◌+ℤ◌, ◌*ℤ◌}
 use lib.ListN.{length, get_or, take, length-set}
 use lib.Seq.{get_or-take, length-take-le}

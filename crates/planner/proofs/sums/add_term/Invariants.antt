@@ -1,18 +1,10 @@
 -- `sums::add_term` meets its contract. The invariant: at each place a has been added as often as it occurs among the first t
 -- residues. `Addable` keeps the sums in 64 bits.
-use mathlib.Core.Path.{◌≡◌, refl}
-use Prim.Native.Nat.{ℕ, zero-le, ◌≤◌, ◌<◌, ◌-◌}
-use native.Mathlib.Omega.{arith}
-use borrow.Author.Rules.{rules, sfits_of}
+use mathlib.Core.Path.{◌≡◌}
+use Prim.Native.Nat.{ℕ, ◌≤◌, ◌-◌}
 use lib.IntN.{pos, ◌+ℤ◌, ◌*ℤ◌}
-use lib.ListN.{length, get_or, take, length-set}
-use lib.Seq.{get_or-take, length-take-le}
-use mir.Syntax.{w64}
-use mir.Val.{SFits, to_z, of_z}
-use mir.Facts.{to_z-of_z}
+use lib.ListN.{length, get_or, take}
 use Rattle.planner.specs.Inner.{occurrences}
-use Rattle.planner.proofs.sums.SignedSteps.{sum_fits, sum_back}
-use Rattle.planner.proofs.sums.SumSteps.{none_added, term_more, term_fits}
 use Rattle.planner.proofs.sums.add_term.Given as goal
 
 abbrev pub invariant-loop-t : goal.invariant-loop-t

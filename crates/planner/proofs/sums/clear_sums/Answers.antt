@@ -1,10 +1,9 @@
 -- `sums::clear_sums` meets its contract. The invariant: the first r sums are 0. From the end on there is none.
-use mathlib.Core.Path.{◌≡◌, refl}
-use Prim.Native.Nat.{ℕ, zero-le, ◌≤◌, ◌<◌, ◌-◌}
+use mathlib.Core.Path.{refl}
+use Prim.Native.Nat.{zero-le}
 use native.Mathlib.Omega.{arith}
 use lib.IntN.{pos}
-use lib.ListN.{length, get_or, length-set}
-use borrow.Author.Rules.{rules}
+use lib.ListN.{length-set}
 use Rattle.planner.proofs.Writing.{clear_more}
 use Rattle.planner.proofs.sums.SumSteps.{clear_all}
 use Rattle.planner.proofs.sums.clear_sums.Goals as goal

@@ -1,12 +1,8 @@
 -- `sums::clear_sums` meets its contract. The invariant: the first r sums are 0. From the end on there is none.
-use mathlib.Core.Path.{◌≡◌, refl}
-use Prim.Native.Nat.{ℕ, zero-le, ◌≤◌, ◌<◌, ◌-◌}
-use native.Mathlib.Omega.{arith}
+use mathlib.Core.Path.{◌≡◌}
+use Prim.Native.Nat.{ℕ, ◌≤◌, ◌<◌, ◌-◌}
 use lib.IntN.{pos}
-use lib.ListN.{length, get_or, length-set}
-use borrow.Author.Rules.{rules}
-use Rattle.planner.proofs.Writing.{clear_more}
-use Rattle.planner.proofs.sums.SumSteps.{clear_all}
+use lib.ListN.{length, get_or}
 use Rattle.planner.proofs.sums.clear_sums.Given as goal
 
 abbrev pub invariant-loop-r : goal.invariant-loop-r

@@ -1,7 +1,6 @@
 -- `sums::divides_evenly` meets its contract: the remainder's bits are 0 just where c divides the sum, and then the range of the
 -- quotient is left to test.
 use mathlib.Core.Path.{◌∙◌, ap}
-use borrow.Author.Rules.{rules}
 use Rattle.rank1.specs.Sums.{in32}
 use Rattle.planner.proofs.sums.SignedSteps as S
 use Rattle.planner.proofs.sums.divides_evenly.Goals as goal

@@ -4,7 +4,6 @@ use native.Mathlib.Omega.{arith}
 use lib.ListN.{get_or, take}
 use lib.Seq.{get_or-take}
 use Rattle.planner.proofs.sums.SumSteps.{entry_is}
-use borrow.Author.Rules.{rules}
 use Rattle.planner.proofs.sums.entry_of.Goals as goal
 
 pub returns : goal.returns

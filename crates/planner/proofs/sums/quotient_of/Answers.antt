@@ -1,6 +1,5 @@
 -- `sums::quotient_of` meets its contract: a sum that passes has a quotient of 32 bits.
 use mir.Facts.{to_z-of_z}
-use borrow.Author.Rules.{rules}
 use Rattle.planner.proofs.sums.SignedSteps as S
 use Rattle.planner.proofs.sums.quotient_of.Goals as goal
 

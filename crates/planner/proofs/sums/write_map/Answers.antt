@@ -1,12 +1,11 @@
 -- `sums::write_map` meets its contract. The invariant: the first 2 * i places are the map's, which a turn makes two more
 -- (`map_more`).
-use mathlib.Core.Path.{◌≡◌, refl, ◌∙◌, sym}
+use mathlib.Core.Path.{refl, ◌∙◌, sym}
 use mathlib.Core.List.{map}
-use Prim.Native.Nat.{zero-le, ◌-◌, ◌*◌, ◌≤◌}
+use Prim.Native.Nat.{zero-le, ◌*◌}
 use native.Mathlib.Omega.{arith}
-use borrow.Author.Rules.{rules}
 use lib.IntN.{pos}
-use lib.ListN.{length, take, length-set}
+use lib.ListN.{length-set}
 use Rattle.rank1.specs.Index.{row_count, index_list}
 use Rattle.rank1.specs.Sums.{residue_map}
 use Rattle.rank1.proofs.IndexLaws.{rows-length}

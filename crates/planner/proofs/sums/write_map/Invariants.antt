@@ -1,17 +1,12 @@
 -- `sums::write_map` meets its contract. The invariant: the first 2 * i places are the map's, which a turn makes two more
 -- (`map_more`).
-use mathlib.Core.Path.{◌≡◌, refl, ◌∙◌, sym}
+use mathlib.Core.Path.{◌≡◌}
 use mathlib.Core.List.{map}
-use Prim.Native.Nat.{zero-le, ◌-◌, ◌*◌, ◌≤◌}
-use native.Mathlib.Omega.{arith}
-use borrow.Author.Rules.{rules}
+use Prim.Native.Nat.{◌-◌, ◌*◌, ◌≤◌}
 use lib.IntN.{pos}
-use lib.ListN.{length, take, length-set}
+use lib.ListN.{length, take}
 use Rattle.rank1.specs.Index.{row_count, index_list}
 use Rattle.rank1.specs.Sums.{residue_map}
-use Rattle.rank1.proofs.IndexLaws.{rows-length}
-use Rattle.rank1.proofs.SumLaws.{map-length}
-use Rattle.planner.proofs.sums.SumSteps.{map_more, fill_all}
 use Rattle.planner.proofs.sums.write_map.Given as goal
 
 abbrev pub invariant-loop-i : goal.invariant-loop-i

@@ -3,16 +3,15 @@
 use mathlib.Core.Path.{◌≡◌, refl, sym, ◌∙◌, ap}
 use mathlib.Core.Bool.{true}
 use mathlib.Core.List.{map}
-use Prim.Native.Nat.{ℕ, zero-le, ◌-◌, ◌*◌, ◌≤◌, ◌<◌}
+use Prim.Native.Nat.{ℕ, zero-le, ◌*◌, ◌≤◌, ◌<◌}
 use native.Mathlib.Omega.{arith}
-use borrow.Author.Rules.{rules}
 use borrow.Author.Count.{below_more}
 use lib.IntN.{pos, nat_abs}
-use lib.ListN.{length, get_or, take}
+use lib.ListN.{get_or, take}
 use mir.Syntax.{w64}
 use mir.Val.{to_z, of_z}
 use Rattle.rank1.specs.Index.{row_count, index_list}
-use Rattle.rank1.specs.Sums.{copies_at, sum_at, in32}
+use Rattle.rank1.specs.Sums.{copies_at, in32}
 use Rattle.rank1.proofs.IndexLaws.{rows-length, member_length, row_inside}
 use Rattle.rank1.proofs.WholeSums.{mag_in32}
 use Rattle.planner.specs.Sizes.{most_mirrors}

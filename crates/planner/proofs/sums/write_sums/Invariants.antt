@@ -1,26 +1,14 @@
 -- `sums::write_sums` meets its contract. The invariant: the sums are those of the first i rows, whose terms have 32 bits. So 512
 -- rows of at most 64 residues stay in 64 bits (`addable`).
-use mathlib.Core.Path.{◌≡◌, refl, sym, ◌∙◌, ap}
+use mathlib.Core.Path.{◌≡◌}
 use mathlib.Core.Bool.{true}
 use mathlib.Core.List.{map}
-use Prim.Native.Nat.{ℕ, zero-le, ◌-◌, ◌*◌, ◌≤◌, ◌<◌}
-use native.Mathlib.Omega.{arith}
-use borrow.Author.Rules.{rules}
-use borrow.Author.Count.{below_more}
-use lib.IntN.{pos, nat_abs}
+use Prim.Native.Nat.{ℕ, ◌-◌, ◌≤◌, ◌<◌}
+use lib.IntN.{pos}
 use lib.ListN.{length, get_or, take}
-use mir.Syntax.{w64}
-use mir.Val.{to_z, of_z}
-use Rattle.rank1.specs.Index.{row_count, index_list}
-use Rattle.rank1.specs.Sums.{copies_at, sum_at, in32}
-use Rattle.rank1.proofs.IndexLaws.{rows-length, member_length, row_inside}
-use Rattle.rank1.proofs.WholeSums.{mag_in32}
+use Rattle.rank1.specs.Index.{index_list}
+use Rattle.rank1.specs.Sums.{sum_at, in32}
 use Rattle.planner.specs.Sizes.{most_mirrors}
-use Rattle.planner.specs.Inner.{occurrences, RowReady}
-use Rattle.planner.proofs.mirrors.MirrorResidues.{row-ready}
-use Rattle.planner.proofs.rule.RuleIndex.{row_number}
-use Rattle.planner.proofs.sums.SignedSteps.{passed}
-use Rattle.planner.proofs.sums.SumSteps.{addable, occurrences_are, sums_more, sums_small, sums_all, in32_small, all_in32}
 use Rattle.planner.proofs.sums.write_sums.Given as goal
 
 abbrev pub invariant-loop-i : goal.invariant-loop-i

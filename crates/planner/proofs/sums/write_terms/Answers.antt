@@ -3,15 +3,14 @@
 use mathlib.Core.Path.{◌≡◌, refl, sym, ◌∙◌}
 use mathlib.Core.Bool.{Bool, true}
 use mathlib.Core.List.{List, [], map}
-use Prim.Native.Nat.{zero-le, ◌-◌, ◌≤◌, ◌<◌}
+use Prim.Native.Nat.{zero-le, ◌<◌}
 use native.Mathlib.Omega.{arith}
-use borrow.Author.Rules.{rules}
 use lib.IntN.{ℤ, pos}
-use lib.ListN.{length, get_or, take, length-set, length-map}
+use lib.ListN.{length, get_or, length-set, length-map}
 use mir.Syntax.{w32}
 use mir.Val.{to_z, of_z}
 use Rattle.rank1.specs.Index.{row_count, index_list}
-use Rattle.rank1.specs.Sums.{gathers, gathered_term, gathered_terms}
+use Rattle.rank1.specs.Sums.{gathers, gathered_term}
 use Rattle.rank1.proofs.Distinct.{member_at}
 use Rattle.rank1.proofs.UpTo.{get_d_map}
 use Rattle.rank1.proofs.IndexLaws.{rows-length}

@@ -1,22 +1,12 @@
 -- `sums::write_terms` meets its contract. The invariant: the first i terms are the gathered ones. Every row passes, so each
 -- quotient has 32 bits.
-use mathlib.Core.Path.{◌≡◌, refl, sym, ◌∙◌}
-use mathlib.Core.Bool.{Bool, true}
-use mathlib.Core.List.{List, [], map}
-use Prim.Native.Nat.{zero-le, ◌-◌, ◌≤◌, ◌<◌}
-use native.Mathlib.Omega.{arith}
-use borrow.Author.Rules.{rules}
-use lib.IntN.{ℤ, pos}
-use lib.ListN.{length, get_or, take, length-set, length-map}
-use mir.Syntax.{w32}
-use mir.Val.{to_z, of_z}
+use mathlib.Core.Path.{◌≡◌}
+use mathlib.Core.List.{map}
+use Prim.Native.Nat.{◌-◌, ◌≤◌}
+use lib.IntN.{pos}
+use lib.ListN.{length, take}
 use Rattle.rank1.specs.Index.{row_count, index_list}
-use Rattle.rank1.specs.Sums.{gathers, gathered_term, gathered_terms}
-use Rattle.rank1.proofs.Distinct.{member_at}
-use Rattle.rank1.proofs.UpTo.{get_d_map}
-use Rattle.rank1.proofs.IndexLaws.{rows-length}
-use Rattle.rank1.proofs.TestLaws.{every_true}
-use Rattle.planner.proofs.sums.SumSteps.{gather_test, gather_term, fill_more, fill_all}
+use Rattle.rank1.specs.Sums.{gathered_terms}
 use Rattle.planner.proofs.sums.write_terms.Given as goal
 
 abbrev pub invariant-loop-i : goal.invariant-loop-i

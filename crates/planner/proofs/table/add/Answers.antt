@@ -6,7 +6,6 @@ use lib.ListN.{length}
 use Rattle.planner.specs.Sizes.{largest_size}
 use Rattle.planner.specs.Table.{stood, full}
 use Rattle.planner.proofs.table.TableLaws.{stands, next-room, paste_covered, added-joined}
-use borrow.Author.Rules.{rules}
 use Rattle.planner.proofs.table.add.Goals as goal
 use Rattle.planner.proofs.table.add.Goals.{After-copy_row-arg-1}
 

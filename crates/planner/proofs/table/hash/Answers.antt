@@ -1,12 +1,11 @@
 -- `planner::hash`: x is a remainder.
-use Prim.Native.Nat.{◌+◌, ◌-◌, ◌*◌, ◌<◌, ◌≤◌}
+use Prim.Native.Nat.{◌+◌, ◌*◌, ◌≤◌}
 use native.Mathlib.Omega.{arith}
 use native.Mathlib.Nat.{mod-lt}
 use lib.IntN.{pos, nat_abs}
-use Rattle.planner.specs.Sizes.{largest_size, slot_count}
+use Rattle.planner.specs.Sizes.{largest_size}
 use Rattle.planner.proofs.products.ProductLaws.{read_back}
-use lib.ListN.{length, get_or}
-use borrow.Author.Rules.{rules}
+use lib.ListN.{get_or}
 use Rattle.planner.proofs.table.hash.Goals as goal
 
 pub place_of-requires : goal.place_of-requires

@@ -1,13 +1,10 @@
 -- `planner::probe`: the slot p is always one of the table's.
 use mathlib.Core.Path.{sym, ◌∙◌}
 use mathlib.Core.Logic.{inl, inr}
-use Prim.Native.Nat.{◌+◌, ◌-◌, ◌<◌, ◌≤◌}
+use Prim.Native.Nat.{◌+◌, ◌≤◌}
 use native.Mathlib.Nat.{mod-lt}
 use native.Mathlib.Omega.{arith}
-use lib.ListN.{length}
-use Rattle.planner.specs.Sizes.{slot_count}
 use Rattle.planner.proofs.table.TableLaws.{row_room, row-found}
-use borrow.Author.Rules.{rules}
 use Rattle.planner.proofs.table.probe.Goals as goal
 use Rattle.planner.proofs.table.probe.Goals.{After-wide-o}
 

@@ -1,13 +1,7 @@
 -- `planner::probe`: the slot p is always one of the table's.
-use mathlib.Core.Path.{sym, ◌∙◌}
-use mathlib.Core.Logic.{inl, inr}
-use Prim.Native.Nat.{◌+◌, ◌-◌, ◌<◌, ◌≤◌}
-use native.Mathlib.Nat.{mod-lt}
-use native.Mathlib.Omega.{arith}
+use Prim.Native.Nat.{◌-◌, ◌<◌, ◌≤◌}
 use lib.ListN.{length}
 use Rattle.planner.specs.Sizes.{slot_count}
-use Rattle.planner.proofs.table.TableLaws.{row_room, row-found}
-use borrow.Author.Rules.{rules}
 use Rattle.planner.proofs.table.probe.Given as goal
 
 abbrev pub invariant-loop : goal.invariant-loop

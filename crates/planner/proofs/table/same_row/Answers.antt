@@ -1,6 +1,6 @@
 -- `planner::same_row`: the rows are equal below j.
 use mathlib.Core.Path.{◌≡◌, sym, ◌∙◌, ap}
-use Prim.Native.Nat.{ℕ, ◌-◌, ◌<◌, ◌≤◌}
+use Prim.Native.Nat.{ℕ}
 use native.Mathlib.Omega.{arith}
 use lib.IntN.{pos}
 use lib.Seq.{ext_get_or}
@@ -9,8 +9,7 @@ use mir.Val.{to_z}
 use mir.Facts.{to_z-of_z}
 use borrow.Author.Count.{below_more}
 use borrow.Author.Rules.{sfits_of}
-use lib.ListN.{length, get_or}
-use borrow.Author.Rules.{rules}
+use lib.ListN.{get_or}
 use Rattle.planner.proofs.table.same_row.Goals as goal
 
 pub loop-j-init : goal.loop-j-init

@@ -1,16 +1,8 @@
 -- `planner::same_row`: the rows are equal below j.
-use mathlib.Core.Path.{◌≡◌, sym, ◌∙◌, ap}
+use mathlib.Core.Path.{◌≡◌}
 use Prim.Native.Nat.{ℕ, ◌-◌, ◌<◌, ◌≤◌}
-use native.Mathlib.Omega.{arith}
 use lib.IntN.{pos}
-use lib.Seq.{ext_get_or}
-use mir.Syntax.{w16}
-use mir.Val.{to_z}
-use mir.Facts.{to_z-of_z}
-use borrow.Author.Count.{below_more}
-use borrow.Author.Rules.{sfits_of}
 use lib.ListN.{length, get_or}
-use borrow.Author.Rules.{rules}
 use Rattle.planner.proofs.table.same_row.Given as goal
 
 abbrev pub invariant-loop-j : goal.invariant-loop-j

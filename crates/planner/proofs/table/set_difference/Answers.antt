@@ -1,6 +1,5 @@
 -- `planner::set_difference`: the sign at the end tells which of the two differences is upright.
 use Rattle.planner.proofs.table.TableLaws.{upright, upright_turned}
-use borrow.Author.Rules.{rules}
 use Rattle.planner.proofs.table.set_difference.Goals as goal
 
 pub returns-then-h-j-lt0 : goal.returns-then-h-j-lt0

@@ -1,15 +1,13 @@
 -- `planner::set_minus`: the components below j are set.
-use mathlib.Core.Path.{◌≡◌, refl, sym, ◌∙◌}
-use Prim.Native.Nat.{ℕ, ◌-◌, ◌<◌, ◌≤◌}
+use mathlib.Core.Path.{refl, sym, ◌∙◌}
 use native.Mathlib.Omega.{arith}
 use lib.IntN.{pos, ◌-ℤ◌}
-use lib.ListN.{length, get_or, length-set}
+use lib.ListN.{get_or, length-set}
 use lib.Seq.{ext_get_or}
 use Rattle.rank1.specs.Differences.{minus}
 use Rattle.planner.proofs.Writing.{stored_more}
 use Rattle.planner.proofs.table.TableLaws.{minus_fits, minus_back}
 use Rattle.rank1.proofs.DifferenceLaws.{minus_at, minus-length}
-use borrow.Author.Rules.{rules}
 use Rattle.planner.proofs.table.set_minus.Goals as goal
 
 pub loop-j-init : goal.loop-j-init

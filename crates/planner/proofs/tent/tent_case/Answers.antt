@@ -1,6 +1,5 @@
 -- `tent::tent_case` meets its contract: each answer is a case that r meets, by arithmetic from the tests before it.
 use native.Mathlib.Omega.{arith}
-use borrow.Author.Rules.{rules}
 use Rattle.planner.proofs.tent.tent_case.Goals as goal
 
 pub returns-then-r-eq0 : goal.returns-then-r-eq0

@@ -1,7 +1,6 @@
 -- `tent::tent_numerator` meets its contract: what the case gives that r meets is document 01's number (`case_minimum`).
 use mathlib.Core.Path.{◌∙◌}
 use Rattle.rank1.proofs.TentLaws.{case_minimum}
-use borrow.Author.Rules.{rules}
 use Rattle.planner.proofs.tent.tent_numerator.Goals as goal
 
 pub returns : goal.returns

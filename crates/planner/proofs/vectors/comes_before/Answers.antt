@@ -3,12 +3,9 @@
 use mathlib.Core.Path.{◌≡◌, subst}
 use mathlib.Core.Bool.{true≢false, false≢true}
 use mathlib.Core.List.{List}
-use Prim.Native.Nat.{ℕ, ◌-◌, ◌≤◌}
+use Prim.Native.Nat.{ℕ}
 use native.Mathlib.Omega.{arith}
-use lib.ListN.{length}
-use borrow.Author.Rules.{rules}
 use Rattle.rank1.specs.Search.{Before}
-use Rattle.rank1.specs.Axes.{Agree}
 use Rattle.rank1.proofs.Order.{before_at, not_before_at, before_irrefl}
 use Rattle.planner.proofs.search.PrefixLaws.{agree_all, agree_more}
 use Rattle.planner.proofs.vectors.comes_before.Goals as goal

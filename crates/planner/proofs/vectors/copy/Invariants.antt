@@ -1,11 +1,7 @@
 -- `planner::vectors::copy` meets its contract. The invariant: the components before i are those of `from`. Measure: those left.
-use mathlib.Core.Path.{◌≡◌, refl, ◌∙◌}
-use Prim.Native.Nat.{ℕ, ◌≤◌, ◌<◌, ◌-◌, zero-le}
-use native.Mathlib.Omega.{arith}
-use lib.ListN.{length, get_or, set, length-set}
-use lib.Seq.{get_or-set_same, get_or-set_other, ext_get_or}
-use borrow.Author.Count.{below_more}
-use borrow.Author.Rules.{rules}
+use mathlib.Core.Path.{◌≡◌}
+use Prim.Native.Nat.{ℕ, ◌≤◌, ◌<◌, ◌-◌}
+use lib.ListN.{length, get_or}
 use Rattle.planner.proofs.vectors.copy.Given as goal
 
 abbrev pub invariant-loop-i : goal.invariant-loop-i

@@ -1,6 +1,5 @@
 -- `vectors::is_gentler`: by the largest components where they differ (by_largest), else by dictionary order (by_dictionary).
 use native.Mathlib.Omega.{arith}
-use borrow.Author.Rules.{rules}
 use Rattle.rank1.proofs.WinnerLaws.{by_largest, by_dictionary}
 use Rattle.planner.proofs.vectors.is_gentler.Goals as goal
 

@@ -1,13 +1,9 @@
 -- `vectors::largest_of`: the larger of top and of the largest of what is left (largest_left, largest_end) is the largest of all. Measure:
 -- the components left.
 use mathlib.Core.Path.{◌≡◌}
-use mathlib.Core.Logic.{⊎_elim}
 use Prim.Native.Nat.{◌-◌, ◌≤◌, max}
-use native.Mathlib.Omega.{arith}
 use lib.ListN.{length, drop}
 use Rattle.rank1.specs.Search.{largest}
-use Rattle.planner.proofs.vectors.LargestLaws.{largest_left, largest_end}
-use borrow.Author.Rules.{rules}
 use Rattle.planner.proofs.vectors.largest_of.Given as goal
 
 abbrev pub invariant-loop-i : goal.invariant-loop-i

@@ -3,7 +3,6 @@
 use mathlib.Core.Path.{sym, ◌∙◌, ap}
 use mathlib.Core.Bool.{Bool}
 use mir.Facts.{to_z-of_z}
-use borrow.Author.Rules.{rules}
 use Rattle.request.specs.Inner.{signed}
 use Rattle.request.proofs.reading.SignedLaws.{clamp_large, bits_neg, bits_neg_fits, clamp_small, bits_pos}
 use Rattle.request.proofs.reading.clamp.Goals as goal

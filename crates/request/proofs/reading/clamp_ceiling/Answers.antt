@@ -1,6 +1,5 @@
 -- `request::reading::clamp_ceiling` meets its contract: a ceiling above 8192 as 8193, any other as it is.
 use mathlib.Core.Path.{sym}
-use borrow.Author.Rules.{rules}
 use borrow.Author.Tests.{lt-ltb, le-ltb}
 use lib.Dec.{ltb}
 use Rattle.request.proofs.CondLaws.{cond_true, cond_false}

@@ -1,10 +1,9 @@
 -- `request::reading::digit_count` meets its contract. The invariant: `count` digits stand there, and the rest is left (Counted).
 use mathlib.Core.Path.{sym, ◌∙◌}
-use Prim.Native.Nat.{◌+◌, ◌-◌}
+use Prim.Native.Nat.{◌+◌}
 use native.Mathlib.Omega.{arith}
-use borrow.Author.Rules.{rules}
 use borrow.Author.Tests.{not-true, not-false}
-use Rattle.request.proofs.reading.DigitLaws.{Counted, counted_none, counted_all, digits_end, digits_none, counted-more, counted_seven}
+use Rattle.request.proofs.reading.DigitLaws.{counted_none, counted_all, digits_end, digits_none, counted-more, counted_seven}
 use Rattle.request.proofs.reading.digit_count.Goals as goal
 
 pub loop-count-init : goal.loop-count-init

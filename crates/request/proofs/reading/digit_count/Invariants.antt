@@ -1,10 +1,6 @@
 -- `request::reading::digit_count` meets its contract. The invariant: `count` digits stand there, and the rest is left (Counted).
-use mathlib.Core.Path.{sym, ◌∙◌}
-use Prim.Native.Nat.{◌+◌, ◌-◌}
-use native.Mathlib.Omega.{arith}
-use borrow.Author.Rules.{rules}
-use borrow.Author.Tests.{not-true, not-false}
-use Rattle.request.proofs.reading.DigitLaws.{Counted, counted_none, counted_all, digits_end, digits_none, counted-more, counted_seven}
+use Prim.Native.Nat.{◌-◌}
+use Rattle.request.proofs.reading.DigitLaws.{Counted}
 use Rattle.request.proofs.reading.digit_count.Given as goal
 
 abbrev pub invariant-loop-count : goal.invariant-loop-count

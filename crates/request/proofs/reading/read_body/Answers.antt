@@ -3,7 +3,6 @@
 use mathlib.Core.Path.{subst}
 use native.Mathlib.Nat.{mul-le-mul}
 use native.Mathlib.Omega.{arith}
-use borrow.Author.Rules.{rules}
 use lib.ListN.{drop}
 use Rattle.request.specs.Reading.{read_rows}
 use Rattle.request.specs.Inner.{RunGot, RunIs}

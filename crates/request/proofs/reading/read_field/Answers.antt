@@ -1,10 +1,9 @@
 -- `request::reading::read_field` meets its contract: a field, and the byte behind it (before_yes, before_no).
 use native.Mathlib.Omega.{arith}
-use borrow.Author.Rules.{rules}
 use mathlib.Core.Path.{sym, ◌∙◌, subst}
 use lib.ListN.{drop}
 use Rattle.request.specs.Reading.{read_number}
-use Rattle.request.specs.Inner.{before, Got, NumberIs}
+use Rattle.request.specs.Inner.{Got, NumberIs}
 use Rattle.request.proofs.reading.ByteLaws.{before_bad, byte_within, before_yes, before_no}
 use Rattle.request.proofs.reading.read_field.Goals as goal
 use Rattle.request.proofs.reading.read_field.Goals.{In-Value}

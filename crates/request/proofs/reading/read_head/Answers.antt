@@ -1,9 +1,7 @@
 -- `request::reading::read_head` meets its contract. The invariant: k fields are read, and the rest of line 1 is left (HeadSoFar).
 use mathlib.Core.Path.{refl}
-use Prim.Native.Nat.{◌-◌}
-use borrow.Author.Rules.{rules}
 use lib.ListN.{replicate}
-use Rattle.request.proofs.reading.HeadLaws.{HeadSoFar, head-start, head_more, head_stop, head_end}
+use Rattle.request.proofs.reading.HeadLaws.{head-start, head_more, head_stop, head_end}
 use Rattle.request.proofs.reading.read_head.Goals as goal
 
 pub loop-k-init : goal.loop-k-init

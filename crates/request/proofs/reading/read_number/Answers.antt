@@ -1,8 +1,6 @@
 -- `request::reading::read_number` meets its contract, by the digits counted: none (number_none), too many (number-many), a
 -- superfluous zero (number-padded), or a field (number_at).
-use mathlib.Core.Logic.{⊎_elim}
 use native.Mathlib.Omega.{arith}
-use borrow.Author.Rules.{rules}
 use mathlib.Core.Path.{◌∙◌}
 use lib.ListN.{drop}
 use Rattle.request.proofs.reading.UnsignedLaws.{number_none, number-many, number-padded, at_start, number_at}

@@ -3,7 +3,6 @@
 use mathlib.Core.Path.{sym, ap, subst, ◌∙◌}
 use mathlib.Core.List.{[], ◌∷◌}
 use native.Mathlib.Omega.{arith}
-use borrow.Author.Rules.{rules}
 use lib.ListN.{drop}
 use Rattle.request.specs.Reading.{Reading, refused, read_line, read_number}
 use Rattle.request.specs.Inner.{Got, LineIs, AskedIs, HeadIn}

@@ -1,13 +1,12 @@
 -- `request::reading::read_rows` meets its contract. The invariant: i rows are read and written, the rest is left (RowsSoFar).
 use mathlib.Core.Path.{◌∙◌, subst}
-use Prim.Native.Nat.{◌+◌, ◌*◌, ◌-◌, ◌≤◌}
+use Prim.Native.Nat.{◌+◌, ◌*◌, ◌≤◌}
 use native.Mathlib.Nat.{mul-le-mul, mul-le-mul_right}
 use native.Mathlib.Omega.{arith}
-use borrow.Author.Rules.{rules}
 use lib.ListN.{drop}
 use Rattle.request.specs.Reading.{read_line, read_signed}
 use Rattle.request.specs.Inner.{RunIs}
-use Rattle.request.proofs.reading.RowLaws.{RowsSoFar, rows_start, rows_stop, rows_more, rows_end}
+use Rattle.request.proofs.reading.RowLaws.{rows_start, rows_stop, rows_more, rows_end}
 use Rattle.request.proofs.reading.read_rows.Goals as goal
 
 pub loop-i-init : goal.loop-i-init

@@ -1,7 +1,6 @@
 -- `request::reading::separator` meets its contract: a space where another field follows, else a newline.
 use mathlib.Core.Path.{sym}
 use Prim.Native.Nat.{◌+◌}
-use borrow.Author.Rules.{rules}
 use borrow.Author.Tests.{lt-ltb, le-ltb}
 use lib.Dec.{ltb}
 use Rattle.request.specs.Text.{space, newline}

@@ -1,6 +1,5 @@
 -- `request::reading::stands_at` meets its contract: a place within the text, and the byte there.
 use mathlib.Core.Path.{sym}
-use borrow.Author.Rules.{rules}
 use borrow.Author.Tests.{lt-ltb, le-ltb}
 use lib.Dec.{eqb, ltb}
 use lib.ListN.{length, get_or}

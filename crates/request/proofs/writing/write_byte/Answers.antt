@@ -1,5 +1,4 @@
 -- `writing::write_byte` meets its contract: one store writes one byte (wrote_byte).
-use borrow.Author.Rules.{rules}
 use Rattle.request.proofs.writing.WroteLaws.{wrote_byte}
 use Rattle.request.proofs.writing.write_byte.Goals as goal
 

@@ -1,11 +1,9 @@
 -- `writing::write_bytes` meets its contract. The invariant: the first i bytes were written (wrote_next).
-use Prim.Native.Nat.{◌+◌, ◌-◌, ◌≤◌}
-use mathlib.Core.Path.{◌≡◌, refl, ◌∙◌}
+use Prim.Native.Nat.{◌+◌}
+use mathlib.Core.Path.{refl, ◌∙◌}
 use native.Mathlib.Nat.{add-zero}
-use borrow.Author.Rules.{rules}
 use native.Mathlib.Omega.{arith}
-use lib.ListN.{length, get_or, take, length-set}
-use Rattle.request.specs.Inner.{Wrote}
+use lib.ListN.{get_or, length-set}
 use Rattle.request.proofs.writing.WroteLaws.{wrote_none, wrote_next, wrote_whole}
 use Rattle.request.proofs.writing.write_bytes.Goals as goal
 

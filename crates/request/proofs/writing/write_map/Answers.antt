@@ -1,11 +1,8 @@
 -- `writing::write_map` meets its contract. The invariant: the first i lines were written (wrote_line), at most 12 bytes each.
-use mathlib.Core.Path.{◌≡◌, refl, ◌∙◌}
-use Prim.Native.Nat.{◌+◌, ◌-◌, ◌*◌, ◌≤◌}
+use mathlib.Core.Path.{refl, ◌∙◌}
+use Prim.Native.Nat.{◌+◌, ◌*◌, ◌≤◌}
 use native.Mathlib.Omega.{arith}
-use borrow.Author.Rules.{rules}
-use lib.ListN.{length, get_or, take}
-use Rattle.request.specs.Answer.{map_text}
-use Rattle.request.specs.Inner.{Wrote}
+use lib.ListN.{get_or}
 use Rattle.request.proofs.writing.TextSteps.{wrote_line, wrote_map}
 use Rattle.request.proofs.writing.WroteLaws.{wrote_none, number_end}
 use Rattle.request.proofs.writing.write_map.Goals as goal

@@ -1,13 +1,9 @@
 -- `writing::write_map` meets its contract. The invariant: the first i lines were written (wrote_line), at most 12 bytes each.
-use mathlib.Core.Path.{◌≡◌, refl, ◌∙◌}
+use mathlib.Core.Path.{◌≡◌}
 use Prim.Native.Nat.{◌+◌, ◌-◌, ◌*◌, ◌≤◌}
-use native.Mathlib.Omega.{arith}
-use borrow.Author.Rules.{rules}
-use lib.ListN.{length, get_or, take}
+use lib.ListN.{length, take}
 use Rattle.request.specs.Answer.{map_text}
 use Rattle.request.specs.Inner.{Wrote}
-use Rattle.request.proofs.writing.TextSteps.{wrote_line, wrote_map}
-use Rattle.request.proofs.writing.WroteLaws.{wrote_none, number_end}
 use Rattle.request.proofs.writing.write_map.Given as goal
 
 abbrev pub invariant-loop-i : goal.invariant-loop-i

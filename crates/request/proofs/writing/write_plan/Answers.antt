@@ -1,6 +1,5 @@
 -- `writing::write_plan` meets its contract: the number and behind it the vector (wrote_more).
 use native.Mathlib.Omega.{arith}
-use borrow.Author.Rules.{rules}
 use Rattle.request.specs.Text.{number_text}
 use Rattle.request.specs.Answer.{vector_text}
 use Rattle.request.proofs.writing.WroteLaws.{number_end, wrote_more}

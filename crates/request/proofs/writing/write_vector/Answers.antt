@@ -1,12 +1,8 @@
 -- `writing::write_vector` meets its contract. The invariant: the first j components were written (wrote_component), at most 6 bytes
 -- each; behind the loop the line's end (wrote_vector).
-use mathlib.Core.Path.{◌≡◌, refl, ◌∙◌}
-use Prim.Native.Nat.{◌+◌, ◌-◌, ◌*◌, ◌≤◌}
+use mathlib.Core.Path.{refl, ◌∙◌}
 use native.Mathlib.Omega.{arith}
-use borrow.Author.Rules.{rules}
-use lib.ListN.{length, get_or, take}
-use Rattle.request.specs.Inner.{Wrote}
-use Rattle.request.proofs.AnswerTextLaws.{components_text}
+use lib.ListN.{get_or}
 use Rattle.request.proofs.writing.TextSteps.{wrote_component, wrote_vector}
 use Rattle.request.proofs.writing.WroteLaws.{wrote_none, number_end}
 use Rattle.request.proofs.writing.write_vector.Goals as goal

@@ -1,14 +1,10 @@
 -- `writing::write_vector` meets its contract. The invariant: the first j components were written (wrote_component), at most 6 bytes
 -- each; behind the loop the line's end (wrote_vector).
-use mathlib.Core.Path.{◌≡◌, refl, ◌∙◌}
+use mathlib.Core.Path.{◌≡◌}
 use Prim.Native.Nat.{◌+◌, ◌-◌, ◌*◌, ◌≤◌}
-use native.Mathlib.Omega.{arith}
-use borrow.Author.Rules.{rules}
-use lib.ListN.{length, get_or, take}
+use lib.ListN.{length, take}
 use Rattle.request.specs.Inner.{Wrote}
 use Rattle.request.proofs.AnswerTextLaws.{components_text}
-use Rattle.request.proofs.writing.TextSteps.{wrote_component, wrote_vector}
-use Rattle.request.proofs.writing.WroteLaws.{wrote_none, number_end}
 use Rattle.request.proofs.writing.write_vector.Given as goal
 
 abbrev pub invariant-loop-j : goal.invariant-loop-j
