@@ -29,7 +29,7 @@ sys.path.insert(0, os.path.join(ROOT, "tests"))
 import brute
 import large
 
-PLAN = os.path.join(ROOT, "target", "bin", "plan")
+PLAN = os.path.join(ROOT, "crates", "plan", "out", "plan")
 PEER = os.path.join(ROOT, "target", "peer")
 NAMES = {0: "0", 1: "1", 2: "A", 3: "B", 4: "C"}
 LIMIT = 60                              # seconds after which the earlier program is stopped
@@ -116,7 +116,8 @@ def full_tables():
 
 def build(plan_too):
     if plan_too:
-        subprocess.run(["rt", "check", "plan"], cwd=ROOT, check=True, stdout=subprocess.DEVNULL, stderr=subprocess.DEVNULL)
+        folder = os.path.join(ROOT, "crates", "plan")
+        subprocess.run(["rt", "run"], cwd=folder, check=True, stdin=subprocess.DEVNULL, stdout=subprocess.DEVNULL, stderr=subprocess.DEVNULL)
     os.makedirs(os.path.dirname(PEER), exist_ok=True)
     subprocess.run(["g++", "-O3", "-march=native", "-o", PEER, os.path.join(HERE, "peer.cpp")], check=True)
 

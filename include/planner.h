@@ -1,6 +1,6 @@
 /*
  * The planner: rank-1 lattices that keep the terms of a list apart. Link with target/staticlib/libexports.a, which
- * `rt staticlib exports` writes (x86-64 Linux). Every function is proved to meet its contract (crates/exports).
+ * `bash bindings/archive.sh` writes (x86-64 Linux). Every function is proved to meet its contract (crates/exports_c).
  *
  * The arguments
  *   plan            0 exact integration, 1 Fourier reconstruction, 2, 3, 4 cosine plans A, B, C

@@ -15,7 +15,7 @@ quietly() {
 }
 
 archive=target/staticlib/libexports.a
-quietly rt staticlib exports
+quietly bash bindings/archive.sh
 
 export CARGO_TARGET_DIR=$PWD/target/cargo
 for profile in dev release; do

@@ -1,6 +1,6 @@
 """Runs the built program `plan` one request at a time and compares what it writes with what it must write.
 
-    python3 tests/program.py          after rt ci or rt check, which build target/bin/plan
+    python3 tests/program.py          after rt ci, or rt run in crates/plan, which build crates/plan/out/plan
 
 Requests: the examples, a ticket without terms under each plan, one whose answer is not the first vector in dictionary order, those of
 tests/requests.py that are too long for `trials` (tests/brute.sh writes them), one for each refusal that the program can give, the same
@@ -20,7 +20,7 @@ sys.dont_write_bytecode = True
 import brute
 
 HERE = os.path.dirname(os.path.abspath(__file__))
-PROGRAM = os.path.join(HERE, "..", "target", "bin", "plan")
+PROGRAM = os.path.join(HERE, "..", "crates", "plan", "out", "plan")
 EXAMPLE = b"4 1 3 10\n0\n1\n2\n"
 PRINTED = b"4 1\n0 1\n1 1\n2 2\n"
 NO_TERMS = b"%d 2 0 10\n"                               # document 02, a: a ticket without terms

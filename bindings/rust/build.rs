@@ -1,4 +1,4 @@
-//! Links libexports.a, which `rt staticlib exports` writes to target/staticlib at the repository's root. The variable
+//! Links libexports.a, which bindings/archive.sh writes to target/staticlib at the repository's root. The variable
 //! PLANNER_LIB_DIR names another folder that has it.
 
 use std::env;
@@ -14,7 +14,7 @@ fn main() {
     println!("cargo:rerun-if-changed={}", archive.display());
     let Ok(archive) = archive.canonicalize() else {
         eprintln!(
-            "{} is not there: run `rt staticlib exports` at the root of the planner's repository,",
+            "{} is not there: run `bash bindings/archive.sh` at the root of the planner's repository,",
             archive.display()
         );
         eprintln!("or set PLANNER_LIB_DIR to the folder that has libexports.a (an absolute path)");

@@ -7,13 +7,7 @@ ghost use Rattle.exports.specs.Numbers.{RowsTold, LowerTold};
 use lists::{Lowness, RowCount};
 
 // The list of the corners: its rows then stand at the front of `out`, and their number in `count`.
-#[unsafe(no_mangle)]
-pub extern "C" fn planner_corner_list(
-    d: usize,
-    corners: &[i16],
-    out: &mut [i16],
-    count: &mut usize,
-) -> u8
+pub fn planner_corner_list(d: usize, corners: &[i16], out: &mut [i16], count: &mut usize) -> u8
     ensures { RowsTold (CornerCall d corners.now out.old out.new) count.old count.new result }
 {
     match lists::corner_list(d, corners, out) {
@@ -26,8 +20,7 @@ pub extern "C" fn planner_corner_list(
 }
 
 // Whether the list is lower: `yes` then holds 1 or 0.
-#[unsafe(no_mangle)]
-pub extern "C" fn planner_is_lower(d: usize, rows: &[i16], yes: &mut u8) -> u8
+pub fn planner_is_lower(d: usize, rows: &[i16], yes: &mut u8) -> u8
     ensures { LowerTold (LowerCall d rows.now) yes.old yes.new result }
 {
     match lists::is_lower(d, rows) {

@@ -1,6 +1,8 @@
-// The planner's calls for programs in C and Rust to link (include/planner.h has them for C). Every export but planner_gentler, which
-// refuses nothing, returns the number of the refusal, 0 for none. What a call finds beside that, yes or no or the modulus, goes to a
-// lent place, which keeps its content where the call is refused. The calls about lists alone stand in tally.rt and corners.rt.
+// The planner's calls in the form that C and Rust link (include/planner.h has them for C; crate exports_c, whose exports call these, gives
+// them their symbols). Every call but planner_gentler, which refuses nothing, returns the number of the refusal, 0 for none. What a call
+// finds beside that, yes or no or the modulus, goes to a lent place, which keeps its content where the call is refused. The calls about
+// lists alone stand in tally.rt and corners.rt.
+#![tactic(auto)]
 
 #![tactic(auto)]
 
@@ -11,16 +13,11 @@ ghost use Rattle.std.specs.Prelude.{◌≡◌};
 ghost use Rattle.planner.specs.Answer.{check_answer, ResidueMapCall, SpreadCall, GatherCall, PointListCall, refusal_number, VectorSearch, SmallestSearch};
 ghost use Rattle.exports.specs.Numbers.{CheckTold, modulus_or, PlanTold, WinnerTold};
 
+pub use corners::{planner_corner_list, planner_is_lower};
+pub use tally::{PlannerTally, planner_add_row, planner_least_modulus, planner_tally_list};
+
 // Whether the pair n, z meets the rule of the plan for the rows: `yes` then holds 1 or 0.
-#[unsafe(no_mangle)]
-pub extern "C" fn planner_check(
-    plan: u8,
-    d: usize,
-    rows: &[i16],
-    n: u16,
-    z: &[u16],
-    yes: &mut u8,
-) -> u8
+pub fn planner_check(plan: u8, d: usize, rows: &[i16], n: u16, z: &[u16], yes: &mut u8) -> u8
     ensures { CheckTold (check_answer plan d rows.now n z.now) yes.old yes.new result }
 {
     match planner::check(plan, d, rows, n, z) {
@@ -37,8 +34,7 @@ pub extern "C" fn planner_check(
 }
 
 // The map: for each row its residue and c.
-#[unsafe(no_mangle)]
-pub extern "C" fn planner_residue_map(
+pub fn planner_residue_map(
     plan: u8,
     d: usize,
     rows: &[i16],
@@ -52,8 +48,7 @@ pub extern "C" fn planner_residue_map(
 }
 
 // Spreading: the sum at each residue.
-#[unsafe(no_mangle)]
-pub extern "C" fn planner_spread(
+pub fn planner_spread(
     plan: u8,
     d: usize,
     rows: &[i16],
@@ -68,8 +63,7 @@ pub extern "C" fn planner_spread(
 }
 
 // Gathering: each row's term from the sum at its residue.
-#[unsafe(no_mangle)]
-pub extern "C" fn planner_gather(
+pub fn planner_gather(
     plan: u8,
     d: usize,
     rows: &[i16],
@@ -84,8 +78,7 @@ pub extern "C" fn planner_gather(
 }
 
 // The point list: `line_count` lines of d numbers, one for each lens.
-#[unsafe(no_mangle)]
-pub extern "C" fn planner_point_list(plan: u8, d: usize, n: u16, z: &[u16], out: &mut [u16]) -> u8
+pub fn planner_point_list(plan: u8, d: usize, n: u16, z: &[u16], out: &mut [u16]) -> u8
     ensures { PointListCall plan d n z.now out.old out.new result }
 {
     planner::point_list(plan, d, n, z, out)
@@ -103,8 +96,7 @@ fn tell_plan(answer: planner::Plan, found: &mut u16) -> u8
 }
 
 // The gentlest admissible vector at n: it then stands in z, and n in `found`.
-#[unsafe(no_mangle)]
-pub extern "C" fn planner_search_vector(
+pub fn planner_search_vector(
     plan: u8,
     d: usize,
     rows: &[i16],
@@ -118,8 +110,7 @@ pub extern "C" fn planner_search_vector(
 }
 
 // The smallest plan up to the ceiling: its vector then stands in z, and its modulus in `found`.
-#[unsafe(no_mangle)]
-pub extern "C" fn planner_search_smallest(
+pub fn planner_search_smallest(
     plan: u8,
     d: usize,
     rows: &[i16],
@@ -133,8 +124,7 @@ pub extern "C" fn planner_search_smallest(
 }
 
 // The gentler of two vectors: 0 where the left one wins, 1 where the right one does. A slice cannot be handed back to C.
-#[unsafe(no_mangle)]
-pub extern "C" fn planner_gentler(left: &[u16], right: &[u16]) -> u8
+pub fn planner_gentler(left: &[u16], right: &[u16]) -> u8
     ensures { WinnerTold left.now right.now result }
 {
     if planner::left_wins(left, right) {

@@ -44,8 +44,7 @@ fn tell_tally(answer: Counted, m: &mut u32, size: &mut u32, zero: &mut u8) -> u8
 }
 
 // The record of a whole list: its numbers then stand in `m`, `size` and `zero` (1 where the zero row is in, else 0).
-#[unsafe(no_mangle)]
-pub extern "C" fn planner_tally_list(
+pub fn planner_tally_list(
     plan: u8,
     d: usize,
     rows: &[i16],
@@ -59,8 +58,7 @@ pub extern "C" fn planner_tally_list(
 }
 
 // One row more: the numbers of the longer list's record then stand in `m`, `size` and `zero`.
-#[unsafe(no_mangle)]
-pub extern "C" fn planner_add_row(
+pub fn planner_add_row(
     plan: u8,
     d: usize,
     rows: &[i16],
@@ -81,8 +79,7 @@ pub extern "C" fn planner_add_row(
 }
 
 // The least modulus worth trying: it then stands in `found`.
-#[unsafe(no_mangle)]
-pub extern "C" fn planner_least_modulus(plan: u8, tally: PlannerTally, found: &mut u16) -> u8
+pub fn planner_least_modulus(plan: u8, tally: PlannerTally, found: &mut u16) -> u8
     ensures { LeastTold (least_answer plan (tally_of tally)) found.old found.new result }
 {
     match lists::least_modulus(plan, tally_of(tally)) {

@@ -1,50 +1,54 @@
 // The program `trials`: many requests in one input, each behind its length in two bytes, the lower first; it writes the answers one
 // after the other. A length of 2,048 or more ends the input. The requests and the answers of the brute-force planner are made by
 // tests/requests.py and stored beside this folder.
+#![tactic(auto)]
 
-use libc::{STDIN_FILENO, STDOUT_FILENO};
+ghost use Rattle.std.specs.Prelude.{◌≡◌};
+
 use request::ANSWER_BYTES;
+use std::io;
+use std::io::Read;
 
-fn wide(x: u8) -> usize {
-    x as usize
+fn wide(x: u8) -> u64
+    ensures { result ≡ x }
+{
+    x as u64
 }
 
 // Writes the answer to a request.
-fn write_answer(text: &[u8]) -> bool {
+fn write_answer(rt: &impl Print, text: &[u8]) -> io::Result<()> {
     let mut out = [0u8; ANSWER_BYTES];
     let size = request::answer_whole(text, &mut out);
-    io::write_all(STDOUT_FILENO, &out[..size])
+    rt.write_all(&out[..size])
 }
 
-// Fills the places with a request and writes its answer.
-fn answer_text(text: &mut [u8]) -> bool {
-    let got = io::read_full(STDIN_FILENO, text);
-    write_answer(&text[..got])
+// Reads a request of so many bytes, or what is left of the input, and writes its answer.
+fn answer_text(rt: &(impl Input + Print + AllocGlobal), size: u64) -> io::Result<()> {
+    let mut text = Vec::new(rt.alloc());
+    rt.reader().take(size).read_to_end(&mut text)?;
+    write_answer(rt, &text)
 }
 
 // Reads one request and writes its answer. False at the end of the input.
-fn answer_next() -> bool {
-    let mut head = [0u8; 2];
-    let mut text = [0u8; 2048];
-    if io::read_full(STDIN_FILENO, &mut head) < 2 {
-        return false;
+fn answer_next(rt: &(impl Input + Print + AllocGlobal)) -> io::Result<bool> {
+    let mut head = Vec::new(rt.alloc());
+    rt.reader().take(2).read_to_end(&mut head)?;
+    let [low, high] = head.as_slice() else {
+        return Ok(false);
+    };
+    if 7 < *high {
+        return Ok(false);
     }
-    let low = wide(head[0]);
-    let high = wide(head[1]);
-    if 7 < high {
-        return false;
-    }
-    let size = low % 256 + 256 * high;
-    answer_text(&mut text[..size])
+    answer_text(rt, wide(*low) + 256 * wide(*high))?;
+    Ok(true)
 }
 
 // At most 8,192 requests.
-fn main() {
-    let mut left: usize = 8192;
-    while 0 < left {
-        if !answer_next() {
-            return;
+fn main(rt: HostRuntime) -> io::Result<()> {
+    for _ in 0..8192 {
+        if !answer_next(&rt)? {
+            break;
         }
-        left -= 1;
     }
+    Ok(())
 }
