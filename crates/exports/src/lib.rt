@@ -3,7 +3,6 @@
 // finds beside that, yes or no or the modulus, goes to a lent place, which keeps its content where the call is refused. The calls about
 // lists alone stand in tally.rt and corners.rt.
 #![tactic(auto)]
-
 #![tactic(auto)]
 
 mod corners;
