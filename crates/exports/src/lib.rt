@@ -2,7 +2,7 @@
 // them their symbols). Every call but planner_gentler, which refuses nothing, returns the number of the refusal, 0 for none. What a call
 // finds beside that, yes or no or the modulus, goes to a lent place, which keeps its content where the call is refused. The calls about
 // lists alone stand in tally.rt and corners.rt.
-#![tactic(auto)]
+
 #![tactic(auto)]
 
 mod corners;
