@@ -62,7 +62,7 @@ tally_of given = record { m = given.m; size = given.size; zero = not (eqb given.
 
 -- three places for a record
 abbrev pub places : ℕ → ℕ → ℕ → PlannerTally
-places m size zero = record { m = m; size = size; zero = zero }
+places m size byte = record { m = m; size = size; zero = byte }
 
 -- the numbers of the record, 1 or 0 for the zero row; where the call is refused, what the places held before
 abbrev pub numbers_or : PlannerTally → Counted → PlannerTally
