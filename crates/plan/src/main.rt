@@ -2,16 +2,14 @@
 // have is read, so that a longer one is seen; what matters is proved in `request`.
 #![tactic(auto)]
 
+use input::read_full;
 use request::{ANSWER_BYTES, TEXT_BYTES};
 use std::io;
-use std::io::Read;
 
 fn main(rt: HostRuntime) -> io::Result<()> {
-    let mut text = Vec::new(rt.alloc());
-    rt.reader()
-        .take(TEXT_BYTES as u64 + 1)
-        .read_to_end(&mut text)?;
+    let mut text = [0u8; TEXT_BYTES + 1];
     let mut out = [0u8; ANSWER_BYTES];
-    let size = request::answer_whole(&text, &mut out);
+    let got = read_full(&rt, &mut text)?;
+    let size = request::answer_whole(&text[..got], &mut out);
     rt.write_all(&out[..size])
 }

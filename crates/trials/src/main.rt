@@ -5,14 +5,14 @@
 
 ghost use Rattle.std.specs.Prelude.{◌≡◌};
 
+use input::read_full;
 use request::ANSWER_BYTES;
 use std::io;
-use std::io::Read;
 
-fn wide(x: u8) -> u64
+fn wide(x: u8) -> usize
     ensures { result ≡ x }
 {
-    x as u64
+    x as usize
 }
 
 // Writes the answer to a request.
@@ -22,24 +22,26 @@ fn write_answer(rt: &impl Print, text: &[u8]) -> io::Result<()> {
     rt.write_all(&out[..size])
 }
 
-// Reads a request of so many bytes, or what is left of the input, and writes its answer.
-fn answer_text(rt: &(impl Input + Print + AllocGlobal), size: u64) -> io::Result<()> {
-    let mut text = Vec::new(rt.alloc());
-    rt.reader().take(size).read_to_end(&mut text)?;
-    write_answer(rt, &text)
+// Fills the places with a request and writes its answer.
+fn answer_text(rt: &(impl Input + Print), text: &mut [u8]) -> io::Result<()> {
+    let got = read_full(rt, text)?;
+    write_answer(rt, &text[..got])
 }
 
 // Reads one request and writes its answer. False at the end of the input.
-fn answer_next(rt: &(impl Input + Print + AllocGlobal)) -> io::Result<bool> {
-    let mut head = Vec::new(rt.alloc());
-    rt.reader().take(2).read_to_end(&mut head)?;
-    let [low, high] = head.as_slice() else {
-        return Ok(false);
-    };
-    if 7 < *high {
+fn answer_next(rt: &(impl Input + Print)) -> io::Result<bool> {
+    let mut head = [0u8; 2];
+    let mut text = [0u8; 2048];
+    if read_full(rt, &mut head)? < 2 {
         return Ok(false);
     }
-    answer_text(rt, wide(*low) + 256 * wide(*high))?;
+    let low = wide(head[0]);
+    let high = wide(head[1]);
+    if 7 < high {
+        return Ok(false);
+    }
+    let size = low % 256 + 256 * high;
+    answer_text(rt, &mut text[..size])?;
     Ok(true)
 }
 
