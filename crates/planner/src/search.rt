@@ -5,7 +5,7 @@
 // | prune | test | law |
 // |---|---|---|
 // | counting: the tally's bound | moduli::start_of | bound_hopeless (all_counted, rest-run) |
-// | rows that end early break the rule | ends_hold | prune-whole (ends-decided) |
+// | rows that end early break the rule | ends_hold | prune-whole (ends_decided) |
 // | scaling: a first component is 0 or divides n | cannot_lead | first_component (lead_passed) |
 // | rounds: the first component does not fall | lowest, rounds.rt | descent_starts (low-passed) |
 // | interchangeable axes: components rise | lowest, marks of axes.rt | swap-first (low-passed) |
