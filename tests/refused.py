@@ -1,19 +1,21 @@
 """Sees each wrong program of the must-fail edits refused by itself, at the fact that no longer holds.
 
-rt ci tries an edit file as a whole, keeps no log of it, and is content with any error. An edit file of this repository holds many wrong
-programs, one for each `file:`, each in a function of its own. So this script makes the logs and reads them. A line `# refused at: PLACE
-NAME` above a wrong program says where the prover must refuse it: PLACE is a file of proofs/ and NAME a declaration there, or PLACE is `fn`
-and the path of a function and NAME a goal that `search` is to prove. `by_itself` and `left_open` say what counts. Goals and steps are named
-after the tests in the code, so a test of another number has another name, and a proof that cites the old one is refused for the name. Where
-nothing else tells, a line `# renames: OLD NEW` has the proof in the folder of PLACE read with the new name in place of the old one.
+rt ci tries an edit file as a whole, is content with any error, and keeps no log. Most edit files here hold many wrong programs, one for each
+`file:`, each in a function of its own. So this script checks them, and reads what the check says. A line `# refused at: PLACE NAME` above a
+wrong program says where the prover must refuse it: PLACE is a file of proofs/ and NAME a declaration there, or PLACE is `fn` and the path of
+a function and NAME a goal of it that `search` is to prove. `by_itself` and `left_open` say what counts.
 
-First all wrong programs of an edit file are checked at once. What calls a function that is not proved may not be tried there, so each wrong
-program that is not seen refused is then checked alone. The logs stay in target/refused/, and serve again until something changes that
-they were made of. The folder KIT's `rt` must be on the PATH.
+Goals and steps are named after the tests in the code. So a test of another number goes by another name, and the proof, which cites the old
+one, is refused for the name alone. Where nothing else tells, a line `# renames: OLD NEW` has the proof in the folder of PLACE read with that
+part of its names exchanged: then it is refused for what the test says.
 
-    python3 tests/refused.py                    every crate
+First all wrong programs of an edit file are checked at once. The goals of a function may not be tried where it calls one that is not proved,
+so each wrong program that is not seen refused there is then checked alone. The logs stay in target/refused/, and serve again until something
+changes that they were made of.
+
+    python3 tests/refused.py                    every crate; `rt` must be on the PATH
     python3 tests/refused.py CRATE..            the named ones
-    python3 tests/refused.py --jobs N CRATE..   with N checks at a time, each on one processor (as many as there are processors, unless said)
+    python3 tests/refused.py --jobs N CRATE..   with N checks at a time (else as many as there are processors)
 """
 
 import argparse
@@ -76,11 +78,11 @@ FALSE_THERE = "the facts known there allow values at which this goal is false"
 
 
 def left_open(log):
-    """The goals of functions, as pairs, that are left open though their fact could be proved at that place in the right program. Values at
-    which the goal is false say so of any goal. That `search` did not prove a goal says so only where the function's proof names no goal
-    or step that is gone: of a goal that is new, or goes by a new name, it is not known that `search` proved it in the right program.
-    Nothing is said so of a function that calls one that is not proved."""
-    gone = {at.rsplit("/", 1)[0] for at in re.findall(r"^(?:\./)?proofs/(\S+?):\d+:\d+: error: (?:.*)(?:that can be named from here|has no field|is not in scope)", log, re.M)}
+    """The goals of functions, as pairs, that are left to `search` and whose fact does not hold. Where the prover has values at which a goal is
+    false, that is so. Where `search` only did not find a proof, it is so if it finds one in the right program: of a function whose proof names
+    a goal or step that is gone nobody knows that, since the goal may have gone by another name there, and have had an answer. And nothing is
+    known of a function that calls one that is not proved."""
+    gone = {it.replace("+", "") for it in re.findall(r"^(?:\./)?proofs/(\S+)/\w+\.antt:\d+:\d+: error: .*(?:that can be named from here|has no field|is not in scope)", log, re.M)}
     found, goals = set(), []
     for line in log.split("\n"):
         goal, function = OPEN_GOAL.match(line), FUNCTION.match(line)
@@ -131,9 +133,20 @@ class Program:
         return "::".join([crate, *(it for it in folders if not it.startswith("+"))]) if folders else None
 
 
+def function_at(text, line):
+    """The name of the function that a line of a source file stands in."""
+    names = [re.match(r"\s*(?:pub(?:\(\w+\))? )?(?:extern \"C\" )?fn (\w+)", row) for row in text.split("\n")[:line + 1]]
+    return next((it[1] for it in reversed(names) if it), None)
+
+
+def named_at(place):
+    """The name of the function whose goal or proof file a place is."""
+    return place.split("::")[-1] if place.startswith("fn ") else place.split("/")[-2].lstrip("+")
+
+
 def programs(crate, edit):
     """The wrong programs of an edit file. Each pair applies to what the pairs before it made, so where a line stands is known only then."""
-    texts, found, title, at, renames, file, old = {}, [], "", [], [], None, None
+    texts, found, title, at, renames, file, old = {}, [], "it", [], [], None, None
     for row in read(edit).split("\n"):
         if row.startswith("# refused at: "):
             at.append(row[len("# refused at: "):])
@@ -154,10 +167,19 @@ def programs(crate, edit):
             if texts[file].count(old) != 1 or not at:
                 raise Wrong("an `old:` does not stand once, or has no `file:` of its own: %s" % old)
             line = texts[file][:texts[file].index(old)].count("\n")
+            inside = function_at(texts[file], line) if file.endswith(".rt") else None
             texts[file] = texts[file].replace(old, new)
             place, name = at.pop().rsplit(" ", 1)
+            if new == old:
+                raise Wrong("%s changes nothing" % title)
+            if inside and inside != named_at(place):
+                raise Wrong("%s is in the function %s, and is not refused at it but at %s" % (title, inside, place))
+            if any((place, name) == (it.place, it.name) for it in found):
+                raise Wrong("%s is refused where another wrong program of this file is: %s %s" % (title, place, name))
             found.append(Program(title, file, place, name, renames, line, texts[file].split("\n")[line]))
             renames = []
+    if at or not found:
+        raise Wrong("it has no wrong program, or a line `refused at` without one")
     return found
 
 
@@ -253,12 +275,14 @@ class Crate:
         ran = self.check(folder, words)
         write(folder, was)
         self.free.append(top)
-        # (the status 1 says that something is refused, and any other that nothing was judged, or all proved)
+        if ran.returncode not in (0, 1):
+            raise Wrong("the check of %s ended with status %d, so nothing was judged" % (label, ran.returncode))
         text = head + ran.stdout.replace(top, "") + "status %d\n" % ran.returncode
-        if ran.returncode in (0, 1):
-            os.makedirs(os.path.dirname(kept), exist_ok=True)
-            with open(kept, "w", encoding="utf-8") as it:
-                it.write(text)
+        os.makedirs(os.path.dirname(kept), exist_ok=True)
+        aside = "%s.%d" % (kept, os.getpid())
+        with open(aside, "w", encoding="utf-8") as it:
+            it.write(text)
+        os.replace(aside, kept)
         return text
 
     def tries(self, label, wrong, each):
@@ -281,7 +305,7 @@ def main():
     for counts, message in SAMPLES:
         assert by_itself(message) == counts, message
     given = argparse.ArgumentParser(description=__doc__, formatter_class=argparse.RawDescriptionHelpFormatter)
-    given.add_argument("--jobs", type=int, default=os.cpu_count())
+    given.add_argument("--jobs", type=int, default=len(os.sched_getaffinity(0)))
     given.add_argument("crates", nargs="*", metavar="CRATE")
     given = given.parse_args()
     version = subprocess.run(["rt", "version"], stdout=subprocess.PIPE, text=True, check=True).stdout
@@ -290,6 +314,8 @@ def main():
         crate = path.split(os.sep)[-3]
         if not given.crates or crate in given.crates:
             edits.setdefault(crate, []).append(path)
+    if not edits or not set(given.crates) <= set(edits):
+        sys.exit("refused: no edit of a crate that was named")
     wrong, seen = [], 0
     with tempfile.TemporaryDirectory(prefix="refused-") as room, ThreadPoolExecutor(given.jobs) as files, ThreadPoolExecutor(given.jobs) as alone:
         for name, paths in edits.items():
@@ -300,7 +326,7 @@ def main():
                 try:
                     found = programs(name, path)
                     left = list(crate.tries(label, found, alone.map))
-                    told = ["%s/%s: %s is not refused by itself at %s %s" % (name, label, it.title, it.place, it.name) for it in left]
+                    told = ["%s/%s: %s not refused by itself at %s %s" % (name, label, it.title, it.place, it.name) for it in left]
                     return len(found) - len(left), told
                 except Wrong as why:
                     return 0, ["%s/%s: %s" % (name, label, why)]
