@@ -1,3 +1,2 @@
--- Laws of the exports' answers, and theorems of the exports for readers.
-pub mod AnswerLaws
+-- Theorems of the exports for readers.
 pub mod ExportTheorems

@@ -1,61 +1,34 @@
 -- The answers of the calls as numbers: what an export returns, and what the places lent for what it finds hold afterwards: yes or no, the
 -- modulus, the record, the number of rows. And which of two vectors wins.
-use Rattle.std.specs.Prelude.{◌≡◌, not, List, ℕ, eqb}
+use Rattle.std.specs.Prelude.{◌≡◌, Bool, not, List, ℕ, eqb, Result, Ok, Err}
 use Rattle.exports.specs.declared.tally.PlannerTally.{PlannerTally}
 use Rattle.rank1.specs.declared.Tally.{Tally}
+use Rattle.rank1.specs.declared.Refusal.{Refusal}
+use Rattle.rank1.specs.Named.{refused}
 use Rattle.rank1.specs.Tally.{zeros}
 use Rattle.rank1.specs.Winner.{LeftWins}
-use Rattle.lists.specs.declared.Counted.{Counted}
-use Rattle.lists.specs.declared.Counted.TheVariants as counted
-use Rattle.lists.specs.declared.Least.{Least}
-use Rattle.lists.specs.declared.Least.TheVariants as least
-use Rattle.lists.specs.declared.RowCount.{RowCount}
-use Rattle.lists.specs.declared.RowCount.TheVariants as count
-use Rattle.lists.specs.declared.Lowness.{Lowness}
-use Rattle.lists.specs.declared.Lowness.TheVariants as lowness
-use Rattle.lists.specs.Answer.{counted_refusal, least_number, rows_number, lower_number}
-use Rattle.planner.specs.declared.Verdict.{Verdict}
-use Rattle.planner.specs.declared.Verdict.TheVariants as verdicts
-use Rattle.planner.specs.declared.Plan.{Plan}
-use Rattle.planner.specs.declared.Plan.TheVariants as found
-use Rattle.planner.specs.Answer.{refusal_number}
 
--- a call has an answer that meets its promise; what is returned, and what a lent place holds afterwards, are those of it
-pub record Told {A : Type 0} (number_in : A → ℕ) (placeOr : ℕ → A → ℕ) (Promise : A → Type 0) (before after returned : ℕ) : Type 0 where
-  pub answer : A
+-- what a lent place holds afterwards: what was found, in the form in which it is told; where the call is refused, what it held before
+abbrev pub place_or : {A B : Type 0} → (A → B) → B → Result A Refusal → B
+place_or told before (Ok x) = told x
+place_or told before (Err refusal) = before
+
+-- a call has an answer that meets its promise: the number of its refusal is returned, 0 for none, and what it found goes to the lent place
+pub record Told {A B : Type 0} (told : A → B) (Promise : Result A Refusal → Type 0) (before after : B) (returned : ℕ) : Type 0 where
+  pub answer : Result A Refusal
   pub meets : Promise answer
-  pub number : returned ≡ number_in answer
-  pub place : after ≡ placeOr before answer
+  pub number : returned ≡ refused answer
+  pub place : after ≡ place_or told before answer
 
--- ---- the check
--- the number of the refusal, 0 for none
-abbrev pub refusal_in : Verdict → ℕ
-refusal_in verdicts.Admissible = 0
-refusal_in verdicts.Inadmissible = 0
-refusal_in (verdicts.Refused k) = k
+-- ---- the forms in which it is told
+-- a number: as it is
+abbrev pub as_it_is : ℕ → ℕ
+as_it_is n = n
 
--- 1 for yes and 0 for no; where the check is refused, what the place held before
-abbrev pub yes_or : ℕ → Verdict → ℕ
-yes_or before verdicts.Admissible = 1
-yes_or before verdicts.Inadmissible = 0
-yes_or before (verdicts.Refused k) = before
+-- 1 for yes and 0 for no
+abbrev pub yes_or_no : Bool → ℕ
+yes_or_no b = zeros b
 
--- what is returned, and the place afterwards, where the check answers so
-pub record CheckTold (answer : Verdict) (before after returned : ℕ) : Type 0 where
-  pub number : returned ≡ refusal_in answer
-  pub place : after ≡ yes_or before answer
-
--- ---- the searches
--- the modulus; where the search is refused, what the place held before
-abbrev pub modulus_or : ℕ → Plan → ℕ
-modulus_or before (found.Found n) = n
-modulus_or before (found.Refused k) = before
-
--- what is returned, and the place afterwards, are those of the planner's answer
-abbrev pub PlanTold : (Plan → Type 0) → ℕ → ℕ → ℕ → Type 0
-PlanTold = Told refusal_number modulus_or
-
--- ---- the running tally
 -- the record that the numbers of a call in C stand for: 0 is no, any other number yes
 abbrev pub tally_of : PlannerTally → Tally
 tally_of given = record { m = given.m; size = given.size; zero = not (eqb given.zero 0) }
@@ -64,44 +37,9 @@ tally_of given = record { m = given.m; size = given.size; zero = not (eqb given.
 abbrev pub places : ℕ → ℕ → ℕ → PlannerTally
 places m size byte = record { m = m; size = size; zero = byte }
 
--- the numbers of the record, 1 or 0 for the zero row; where the call is refused, what the places held before
-abbrev pub numbers_or : PlannerTally → Counted → PlannerTally
-numbers_or before (counted.Kept t) = places t.m t.size (zeros t.zero)
-numbers_or before (counted.Refused k) = before
-
--- what is returned, and the three places afterwards, where counting answers so
-pub record CountedTold (answer : Counted) (before after : PlannerTally) (returned : ℕ) : Type 0 where
-  pub number : returned ≡ counted_refusal answer
-  pub places : after ≡ numbers_or before answer
-
--- the modulus; where the call is refused, what the place held before
-abbrev pub least_or_kept : ℕ → Least → ℕ
-least_or_kept before (least.Modulus n) = n
-least_or_kept before (least.Refused k) = before
-
--- what is returned, and the place afterwards, where the least modulus call answers so
-pub record LeastTold (answer : Least) (before after returned : ℕ) : Type 0 where
-  pub number : returned ≡ least_number answer
-  pub place : after ≡ least_or_kept before answer
-
--- ---- lists given by corners
--- the number of rows; where the call is refused, what the place held before
-abbrev pub count_or : ℕ → RowCount → ℕ
-count_or before (count.Rows m) = m
-count_or before (count.Refused k) = before
-
--- what is returned, and the place afterwards, are those of the call's answer
-abbrev pub RowsTold : (RowCount → Type 0) → ℕ → ℕ → ℕ → Type 0
-RowsTold = Told rows_number count_or
-
--- 1 for yes and 0 for no; where the call is refused, what the place held before
-abbrev pub lower_or : ℕ → Lowness → ℕ
-lower_or before lowness.Lower = 1
-lower_or before lowness.NotLower = 0
-lower_or before (lowness.Refused k) = before
-
-abbrev pub LowerTold : (Lowness → Type 0) → ℕ → ℕ → ℕ → Type 0
-LowerTold = Told lower_number lower_or
+-- the numbers of the record, 1 or 0 for the zero row
+abbrev pub numbers : Tally → PlannerTally
+numbers t = places t.m t.size (zeros t.zero)
 
 -- ---- the gentler of two vectors (document 02, f)
 -- 0 where the left one wins, and else 1

@@ -1,12 +1,14 @@
 // The running tally for programs in C and Rust (document 02, b). The record goes in by value; what is found goes to lent places, one
 // for each of its numbers, which keep their content where the call is refused.
+// kept: a place for each number, and refusals and plans as numbers: the C interface passes them so.
 
 ghost use Rattle.std.specs.Prelude.{◌≡◌};
-ghost use Rattle.lists.specs.Answer.{tally_answer, add_answer, least_answer};
-ghost use Rattle.exports.specs.Numbers.{tally_of, places, CountedTold, LeastTold};
+ghost use Rattle.rank1.specs.Named.{refused};
+ghost use Rattle.lists.specs.Answer.{TallyCall, AddCall, LeastCall};
+ghost use Rattle.exports.specs.Numbers.{tally_of, places, numbers, place_or, Told, as_it_is};
 
-use lists::{Counted, Least};
-use rank1::Tally;
+use crate::tell;
+use rank1::{Refusal, Tally, number_of};
 
 // The record as it is handed in: `zero` is 0 for no, and any other number for yes.
 #[repr(C)]
@@ -18,29 +20,30 @@ pub struct PlannerTally {
 }
 
 // The record that the numbers stand for.
-fn tally_of(given: PlannerTally) -> Tally
-    ensures { result ≡ tally_of given }
-{
-    Tally {
-        m: given.m,
-        size: given.size,
-        zero: given.zero != 0,
+impl From<PlannerTally> for Tally {
+    ghost from_gives = { λ given tally. tally ≡ tally_of given };
+
+    fn from(given: PlannerTally) -> Tally {
+        Tally {
+            m: given.m,
+            size: given.size,
+            zero: given.zero != 0,
+        }
     }
 }
 
-// The number of a refusal, 0 where there is a record, whose numbers then stand in the places.
-fn tell_tally(answer: Counted, m: &mut u32, size: &mut u32, zero: &mut u8) -> u8
-    ensures { CountedTold answer (places m.old size.old zero.old) (places m.new size.new zero.new) result }
+// Tells what counting answers: the number of its refusal, 0 for none; the numbers of the record go to the places. C lends a place for each.
+fn tell_tally(answer: Result<Tally, Refusal>, m: &mut u32, size: &mut u32, zero: &mut u8) -> u8
+    ensures number { result ≡ refused answer }
+    ensures places { places m.new size.new zero.new ≡ place_or numbers (places m.old size.old zero.old) answer }
 {
-    match answer {
-        Counted::Kept(tally) => {
-            *m = tally.m;
-            *size = tally.size;
-            *zero = tally.zero as u8;
-            0
-        }
-        Counted::Refused(refused) => refused,
-    }
+    let Ok(tally) = answer else {
+        return number_of(&answer);
+    };
+    *m = tally.m;
+    *size = tally.size;
+    *zero = u8::from(tally.zero);
+    0
 }
 
 // The record of a whole list: its numbers then stand in `m`, `size` and `zero` (1 where the zero row is in, else 0).
@@ -52,7 +55,7 @@ pub fn planner_tally_list(
     size: &mut u32,
     zero: &mut u8,
 ) -> u8
-    ensures { CountedTold (tally_answer plan d rows.now) (places m.old size.old zero.old) (places m.new size.new zero.new) result }
+    ensures { Told numbers (TallyCall plan d rows.now) (places m.old size.old zero.old) (places m.new size.new zero.new) result }
 {
     tell_tally(lists::tally_list(plan, d, rows), m, size, zero)
 }
@@ -68,10 +71,10 @@ pub fn planner_add_row(
     size: &mut u32,
     zero: &mut u8,
 ) -> u8
-    ensures { CountedTold (add_answer plan d rows.now (tally_of tally) row.now) (places m.old size.old zero.old) (places m.new size.new zero.new) result }
+    ensures { Told numbers (AddCall plan d rows.now (tally_of tally) row.now) (places m.old size.old zero.old) (places m.new size.new zero.new) result }
 {
     tell_tally(
-        lists::add_row(plan, d, rows, tally_of(tally), row),
+        lists::add_row(plan, d, rows, Tally::from(tally), row),
         m,
         size,
         zero,
@@ -80,13 +83,7 @@ pub fn planner_add_row(
 
 // The least modulus worth trying: it then stands in `found`.
 pub fn planner_least_modulus(plan: u8, tally: PlannerTally, found: &mut u16) -> u8
-    ensures { LeastTold (least_answer plan (tally_of tally)) found.old found.new result }
+    ensures { Told as_it_is (LeastCall plan (tally_of tally)) found.old found.new result }
 {
-    match lists::least_modulus(plan, tally_of(tally)) {
-        Least::Modulus(modulus) => {
-            *found = modulus;
-            0
-        }
-        Least::Refused(refused) => refused,
-    }
+    tell(lists::least_modulus(plan, Tally::from(tally)), found)
 }

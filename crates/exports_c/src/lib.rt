@@ -1,10 +1,12 @@
 // The planner's calls for programs in C and Rust to link: each export is the call of crate `exports` of the same name, with its promise, and
 // include/planner.h says what it is in C. A slice is passed as a pointer and its length.
+// kept: refusals and plans are numbers, and what belongs together stands apart, since the C interface passes them so; each function has its twin in
+// `exports`, since a crate is a library or a static library.
 #![tactic(auto)]
 
-ghost use Rattle.lists.specs.Answer.{CornerCall, LowerCall, tally_answer, add_answer, least_answer};
-ghost use Rattle.planner.specs.Answer.{check_answer, ResidueMapCall, SpreadCall, GatherCall, PointListCall, VectorSearch, SmallestSearch};
-ghost use Rattle.exports.specs.Numbers.{CheckTold, PlanTold, WinnerTold, tally_of, places, CountedTold, LeastTold, RowsTold, LowerTold};
+ghost use Rattle.lists.specs.Answer.{CornerCall, LowerCall, TallyCall, AddCall, LeastCall};
+ghost use Rattle.planner.specs.Answer.{CheckCall, ResidueMapCall, SpreadCall, GatherCall, PointListCall, VectorSearch, SmallestSearch};
+ghost use Rattle.exports.specs.Numbers.{Told, as_it_is, yes_or_no, tally_of, places, numbers, WinnerTold};
 
 use exports::PlannerTally;
 
@@ -18,7 +20,7 @@ pub extern "C" fn planner_check(
     z: &[u16],
     yes: &mut u8,
 ) -> u8
-    ensures { CheckTold (check_answer plan d rows.now n z.now) yes.old yes.new result }
+    ensures { Told yes_or_no (CheckCall plan d rows.now n z.now) yes.old yes.new result }
 {
     exports::planner_check(plan, d, rows, n, z, yes)
 }
@@ -88,7 +90,7 @@ pub extern "C" fn planner_search_vector(
     z: &mut [u16],
     found: &mut u16,
 ) -> u8
-    ensures { PlanTold (VectorSearch plan d rows.now n z.old z.new) found.old found.new result }
+    ensures { Told as_it_is (VectorSearch plan d rows.now n z.old z.new) found.old found.new result }
 {
     exports::planner_search_vector(plan, d, rows, n, z, found)
 }
@@ -103,7 +105,7 @@ pub extern "C" fn planner_search_smallest(
     z: &mut [u16],
     found: &mut u16,
 ) -> u8
-    ensures { PlanTold (SmallestSearch plan d rows.now ceiling z.old z.new) found.old found.new result }
+    ensures { Told as_it_is (SmallestSearch plan d rows.now ceiling z.old z.new) found.old found.new result }
 {
     exports::planner_search_smallest(plan, d, rows, ceiling, z, found)
 }
@@ -126,7 +128,7 @@ pub extern "C" fn planner_tally_list(
     size: &mut u32,
     zero: &mut u8,
 ) -> u8
-    ensures { CountedTold (tally_answer plan d rows.now) (places m.old size.old zero.old) (places m.new size.new zero.new) result }
+    ensures { Told numbers (TallyCall plan d rows.now) (places m.old size.old zero.old) (places m.new size.new zero.new) result }
 {
     exports::planner_tally_list(plan, d, rows, m, size, zero)
 }
@@ -143,7 +145,7 @@ pub extern "C" fn planner_add_row(
     size: &mut u32,
     zero: &mut u8,
 ) -> u8
-    ensures { CountedTold (add_answer plan d rows.now (tally_of tally) row.now) (places m.old size.old zero.old) (places m.new size.new zero.new) result }
+    ensures { Told numbers (AddCall plan d rows.now (tally_of tally) row.now) (places m.old size.old zero.old) (places m.new size.new zero.new) result }
 {
     exports::planner_add_row(plan, d, rows, tally, row, m, size, zero)
 }
@@ -151,7 +153,7 @@ pub extern "C" fn planner_add_row(
 // The least modulus worth trying: it then stands in `found`.
 #[unsafe(no_mangle)]
 pub extern "C" fn planner_least_modulus(plan: u8, tally: PlannerTally, found: &mut u16) -> u8
-    ensures { LeastTold (least_answer plan (tally_of tally)) found.old found.new result }
+    ensures { Told as_it_is (LeastCall plan (tally_of tally)) found.old found.new result }
 {
     exports::planner_least_modulus(plan, tally, found)
 }
@@ -164,7 +166,7 @@ pub extern "C" fn planner_corner_list(
     out: &mut [i16],
     count: &mut usize,
 ) -> u8
-    ensures { RowsTold (CornerCall d corners.now out.old out.new) count.old count.new result }
+    ensures { Told as_it_is (CornerCall d corners.now out.old out.new) count.old count.new result }
 {
     exports::planner_corner_list(d, corners, out, count)
 }
@@ -172,7 +174,7 @@ pub extern "C" fn planner_corner_list(
 // Whether the list is lower: `yes` then holds 1 or 0.
 #[unsafe(no_mangle)]
 pub extern "C" fn planner_is_lower(d: usize, rows: &[i16], yes: &mut u8) -> u8
-    ensures { LowerTold (LowerCall d rows.now) yes.old yes.new result }
+    ensures { Told yes_or_no (LowerCall d rows.now) yes.old yes.new result }
 {
     exports::planner_is_lower(d, rows, yes)
 }

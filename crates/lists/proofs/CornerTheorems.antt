@@ -26,65 +26,54 @@ use Rattle.rank1.proofs.RunLaws.{run_length, run-rows, run-passes, whole_out}
 use Rattle.rank1.proofs.UnderLaws.{under-turn, under-length}
 use Rattle.rank1.proofs.CornerLaws.{only_one, ascending_distinct}
 use Rattle.rank1.proofs.LowerLaws.{corners_lower, lower_members, same_rows, maximal_members, fewer}
-use Rattle.lists.specs.declared.RowCount.{RowCount}
-use Rattle.lists.specs.declared.RowCount.TheVariants.{Rows, Refused}
-use Rattle.lists.specs.declared.Lowness.{Lowness}
-use Rattle.lists.specs.declared.Lowness.TheVariants as lowness
-use Rattle.lists.specs.Answer.{rows_or, rows_number, front_or, CornerCall, LowerCall}
+use Rattle.std.specs.Prelude.{Result, Ok, Err}
+use Rattle.rank1.specs.declared.Refusal.{Refusal}
+use Rattle.rank1.specs.Named.{number, refused, Answers}
+use Rattle.rank1.proofs.NamedLaws.{number_some, number_same, answers_refused, answers_same, answers_kept}
+use Rattle.lists.specs.Answer.{front_or, CornerCall, LowerCall}
 use Rattle.lists.specs.Inner.{ValidCorners}
 use Rattle.lists.proofs.CornerCalls.{valid_corners}
 use Rattle.lists.proofs.corners.NextLaws.{some_small}
 
 -- ---- one outcome
-pub corner_determined : (d : ℕ) (xs before after after' : List ℤ) (answer answer' : RowCount) → CornerCall d xs before after answer → CornerCall d xs before after' answer' → (answer ≡ answer') × (after ≡ after')
+pub corner_determined : (d : ℕ) (xs before after after' : List ℤ) (answer answer' : Result ℕ Refusal) → CornerCall d xs before after answer → CornerCall d xs before after' answer' → (answer ≡ answer') × (after ≡ after')
 corner_determined d xs before after after' answer answer' p q =
-    let e = only_one (index_list d xs) p.list q.list p.is q.is in (
-      p.fronted.number ∙ ap (λ (ks : List (List ℤ)). rows_or (corner_refusal d xs (length ks) (length before)) (length ks)) e ∙ sym q.fronted.number,
-      p.fronted.places ∙ ap (λ (ks : List (List ℤ)). front_or (corner_refusal d xs (length ks) (length before)) ks before) e ∙ sym q.fronted.places,
+    let e = only_one (index_list d xs) p.list q.list p.is q.is in
+    let number = λ (ks : List (List ℤ)). corner_refusal d xs (length ks) (length before) in (
+      answers_same (number q.list) (length q.list) answer answer' (subst (λ (ks : List (List ℤ)). Answers (number ks) (length ks) answer) e p.fronted.number) q.fronted.number,
+      p.fronted.places ∙ ap (λ (ks : List (List ℤ)). front_or (number ks) ks before) e ∙ sym q.fronted.places,
     )
 
-pub lower_determined : (d : ℕ) (xs : List ℤ) (answer answer' : Lowness) → LowerCall d xs answer → LowerCall d xs answer' → answer ≡ answer'
-lower_determined d xs lowness.Lower lowness.Lower p q = refl
-lower_determined d xs lowness.Lower lowness.NotLower p q = absurd (q.1 p.1)
-lower_determined d xs lowness.Lower (lowness.Refused k) p q = absurd (q.1 (sym q.0 ∙ p.0))
-lower_determined d xs lowness.NotLower lowness.Lower p q = absurd (p.1 q.1)
-lower_determined d xs lowness.NotLower lowness.NotLower p q = refl
-lower_determined d xs lowness.NotLower (lowness.Refused k) p q = absurd (q.1 (sym q.0 ∙ p.0))
-lower_determined d xs (lowness.Refused k) lowness.Lower p q = absurd (p.1 (sym p.0 ∙ q.0))
-lower_determined d xs (lowness.Refused k) lowness.NotLower p q = absurd (p.1 (sym p.0 ∙ q.0))
-lower_determined d xs (lowness.Refused k) (lowness.Refused j) p q = ap lowness.Refused (sym p.0 ∙ q.0)
+pub lower_determined : (d : ℕ) (xs : List ℤ) (answer answer' : Result Bool Refusal) → LowerCall d xs answer → LowerCall d xs answer' → answer ≡ answer'
+lower_determined d xs (Ok true) (Ok true) p q = refl
+lower_determined d xs (Ok true) (Ok false) p q = absurd (q.1.no refl (p.1.yes refl))
+lower_determined d xs (Ok false) (Ok true) p q = absurd (p.1.no refl (q.1.yes refl))
+lower_determined d xs (Ok false) (Ok false) p q = refl
+lower_determined d xs (Ok b) (Err f) p q = absurd (omega (arith, number_some f, p.0, q))
+lower_determined d xs (Err e) (Ok b) p q = absurd (omega (arith, number_some e, q.0, p))
+lower_determined d xs (Err e) (Err f) p q = ap Err (number_same e f (p ∙ sym q))
 
 -- the list of no rows is lower
-pub no_rows_answer : (d : ℕ) (answer : Lowness) → 1 ≤ d → d ≤ 6 → LowerCall d [] answer → answer ≡ lowness.Lower
+pub no_rows_answer : (d : ℕ) (answer : Result Bool Refusal) → 1 ≤ d → d ≤ 6 → LowerCall d [] answer → answer ≡ Ok true
 unfolding lower_refusal
-no_rows_answer d answer low high call = lower_determined d [] answer lowness.Lower call (no_rows_valid 1 d low high, subst Lower (sym (no_rows d)) no_rows_lower)
+no_rows_answer d answer low high call =
+    lower_determined d [] answer (Ok true) call
+    (no_rows_valid 1 d low high, record { yes = λ e. subst Lower (sym (no_rows d)) no_rows_lower; no = λ e. absurd (true≢false e) })
 
 -- ---- refused: by the first condition that applies, and the run is as it was
-rows-number : (k m : ℕ) → rows_number (rows_or k m) ≡ k
-rows-number zero m = refl
-rows-number (suc k) m = refl
+pub corner_refused : (d : ℕ) (xs before after : List ℤ) (e : Refusal) (call : CornerCall d xs before after (Err e)) → (number e ≡ corner_refusal d xs (length call.list) (length before)) × (corner_refusal d xs (length call.list) (length before) ≢ 0)
+corner_refused d xs before after e call =
+    let f : number e ≡ corner_refusal d xs (length call.list) (length before) = call.fronted.number in
+    (f, λ o. omega (arith, number_some e, f, o))
 
--- a refusal has a number above 0
-is_refused : RowCount → Bool
-is_refused (Rows m) = false
-is_refused (Refused k) = true
+module _ (d : ℕ) (xs before after : List ℤ) (answer : Result ℕ Refusal) (call : CornerCall d xs before after answer) where
+  pub corner-number : refused answer ≡ corner_refusal d xs (length call.list) (length before)
+  corner-number = answers_refused (corner_refusal d xs (length call.list) (length before)) (length call.list) answer call.fronted.number
 
-pub corner_refused : (d : ℕ) (xs before after : List ℤ) (k : ℕ) → CornerCall d xs before after (Refused k) → k ≢ 0
-unfolding is_refused
-corner_refused d xs before after k call e = go (corner_refusal d xs (length call.list) (length before)) (length call.list) call.fronted.number
-  where
-    go : (j m : ℕ) → Refused k ≡ rows_or j m → ⊥
-    go zero m f = true≢false (ap is_refused f)
-    go (suc j) m f = let g : k ≡ suc j = ap rows_number f in omega (arith, e, g)
-
-module _ (d : ℕ) (xs before after : List ℤ) (answer : RowCount) (call : CornerCall d xs before after answer) where
-  pub corner-number : rows_number answer ≡ corner_refusal d xs (length call.list) (length before)
-  corner-number = ap rows_number call.fronted.number ∙ rows-number (corner_refusal d xs (length call.list) (length before)) (length call.list)
-
-  pub corner_kept : rows_number answer ≢ 0 → after ≡ before
+  pub corner_kept : refused answer ≢ 0 → after ≡ before
   corner_kept some = go (corner_refusal d xs (length call.list) (length before)) corner-number call.fronted.places
     where
-      go : (k : ℕ) → rows_number answer ≡ k → after ≡ front_or k call.list before → after ≡ before
+      go : (k : ℕ) → refused answer ≡ k → after ≡ front_or k call.list before → after ≡ before
       go zero e p = absurd (some e)
       go (suc k) e p = p
 
@@ -106,7 +95,7 @@ pub record Given (d : ℕ) (before after : List ℤ) (m : ℕ) (ks : List (List 
   pub passes : (plan : ℕ) → first_of (list_conditions plan d (take (m * d) after)) ≡ 0
   pub rest : drop (m * d) after ≡ drop (m * d) before
 
-module _ (d : ℕ) (xs before after : List ℤ) (answer : RowCount) (call : CornerCall d xs before after answer) where
+module _ (d : ℕ) (xs before after : List ℤ) (answer : Result ℕ Refusal) (call : CornerCall d xs before after answer) where
   abbrev ks : List (List ℤ)
   ks = call.list
 
@@ -146,23 +135,19 @@ module _ (d : ℕ) (xs before after : List ℤ) (answer : RowCount) (call : Corn
         front = ap (take (m * d)) written ∙ take_at (run_of ks) (drop (length (run_of ks)) before) (m * d) size
 
   -- the answer by its number: with 0 there are rows
-  pub corner_given : corner_refusal d xs (length ks) (length before) ≡ 0 → (answer ≡ Rows (length ks)) × Given d before after (length ks) ks
+  pub corner_given : corner_refusal d xs (length ks) (length before) ≡ 0 → (answer ≡ Ok (length ks)) × Given d before after (length ks) ks
   corner_given none =
-      (call.fronted.number ∙ ap (λ (k : ℕ). rows_or k (length ks)) none, given_of none (length ks) refl (call.fronted.places ∙ ap (λ (k : ℕ). front_or k ks before) none))
+      (answers_kept (corner_refusal d xs (length ks) (length before)) (length ks) answer none call.fronted.number, given_of none (length ks) refl (call.fronted.places ∙ ap (λ (k : ℕ). front_or k ks before) none))
 
 -- from the answer
-rows_same : (m n : ℕ) → Rows m ≡ Rows n → m ≡ n
-rows_same m n e = cc
-
-pub corner-rows : (d : ℕ) (xs before after : List ℤ) (m : ℕ) (call : CornerCall d xs before after (Rows m)) → Given d before after m call.list
+pub corner-rows : (d : ℕ) (xs before after : List ℤ) (m : ℕ) (call : CornerCall d xs before after (Ok m)) → Given d before after m call.list
 corner-rows d xs before after m call =
-    let none : corner_refusal d xs (length call.list) (length before) ≡ 0 = sym (corner-number d xs before after (Rows m) call) in
-    let g = corner_given d xs before after (Rows m) call none in
-    subst (λ (n : ℕ). Given d before after n call.list) (sym (rows_same m (length call.list) g.0)) g.1
+    let told = call.fronted.number in
+    subst (λ (n : ℕ). Given d before after n call.list) (sym told.1) (corner_given d xs before after (Ok m) call told.0).1
 
 -- ---- a lower list by corners of its own
 -- ys is a run of 1 to 32 rows of a lower list xs up to one of which every row of it is
-module _ (d : ℕ) (xs ys : List ℤ) (low : LowerCall d xs lowness.Lower) (whole : length ys % d ≡ 0) (some : 1 ≤ row_count d ys) (few : row_count d ys ≤ 32) (listed : (c : List ℤ) → Memᴰ c (index_list d ys) → Memᴰ c (index_list d xs)) (is : (k : List ℤ) → Memᴰ k (index_list d xs) ↔ T (under_some (index_list d ys) k)) where
+module _ (d : ℕ) (xs ys : List ℤ) (low : LowerCall d xs (Ok true)) (whole : length ys % d ≡ 0) (some : 1 ≤ row_count d ys) (few : row_count d ys ≤ 32) (listed : (c : List ℤ) → Memᴰ c (index_list d ys) → Memᴰ c (index_list d xs)) (is : (k : List ℤ) → Memᴰ k (index_list d xs) ↔ T (under_some (index_list d ys) k)) where
   conditions : first_of (list_conditions 1 d xs) ≡ 0
   unfolding lower_refusal
   conditions = low.0
@@ -171,7 +156,7 @@ module _ (d : ℕ) (xs ys : List ℤ) (low : LowerCall d xs lowness.Lower) (whol
   in_range : (x : ℤ) → Memᴰ x ys → Ranged 2 x
   in_range =
       whole_out d ys (Ranged 2) (omega (arith, div-add-mod' (length ys) d, whole))
-      (λ c m x n. ((list_components 1 d xs conditions x (component_in d (row_count d xs) xs c x (listed c m) n)).0, λ l. sign c x n (low.1.unsigned c (listed c m))))
+      (λ c m x n. ((list_components 1 d xs conditions x (component_in d (row_count d xs) xs c x (listed c m) n)).0, λ l. sign c x n ((low.1.yes refl).unsigned c (listed c m))))
     where
       sign : (c : List ℤ) (x : ℤ) → Memᴰ x c → Nonnegative c → Nonnegative (x ∷ [])
       sign [] x m n = absurd (Memᴰ.not-nil m)
@@ -184,7 +169,7 @@ module _ (d : ℕ) (xs ys : List ℤ) (low : LowerCall d xs lowness.Lower) (whol
       ∙ first_of_skip (bad_whole d ys) (bad_component 2 ys ∷ []) ((whole_clear d ys).1 whole)
       ∙ first_of_skip (bad_component 2 ys) [] ((component_clear 2 ys).1 in_range)
 
-  module _ (before after : List ℤ) (answer : RowCount) (room : length before ≡ 512 * d) (call : CornerCall d ys before after answer) where
+  module _ (before after : List ℤ) (answer : Result ℕ Refusal) (room : length before ≡ 512 * d) (call : CornerCall d ys before after answer) where
     same : (k : List ℤ) → Memᴰ k call.list ↔ Memᴰ k (index_list d xs)
     same = same_rows (index_list d xs) (index_list d ys) call.list is call.is
 
@@ -203,24 +188,24 @@ module _ (d : ℕ) (xs ys : List ℤ) (low : LowerCall d xs lowness.Lower) (whol
         )
 
     -- the call gives a list with the rows of xs
-    pub same_list : (answer ≡ Rows (length call.list)) × ((k : List ℤ) → Memᴰ k (index_list d (take (length call.list * d) after)) ↔ Memᴰ k (index_list d xs))
+    pub same_list : (answer ≡ Ok (length call.list)) × ((k : List ℤ) → Memᴰ k (index_list d (take (length call.list * d) after)) ↔ Memᴰ k (index_list d xs))
     same_list =
         let g = corner_given d ys before after answer call none in
         (g.0, subst (λ (ks : List (List ℤ)). (k : List ℤ) → Memᴰ k ks ↔ Memᴰ k (index_list d xs)) (sym g.1.rows) same)
 
 -- by its maximal rows
 pub maximal-list :
-    (d : ℕ) (xs ys : List ℤ) → LowerCall d xs lowness.Lower → length ys % d ≡ 0 → 1 ≤ row_count d ys → row_count d ys ≤ 32
+    (d : ℕ) (xs ys : List ℤ) → LowerCall d xs (Ok true) → length ys % d ≡ 0 → 1 ≤ row_count d ys → row_count d ys ≤ 32
     → ((c : List ℤ) → Memᴰ c (index_list d ys) ↔ Maximal (index_list d xs) c)
-    → (before after : List ℤ) (answer : RowCount) → length before ≡ 512 * d → (call : CornerCall d ys before after answer)
-    → (answer ≡ Rows (length call.list)) × ((k : List ℤ) → Memᴰ k (index_list d (take (length call.list * d) after)) ↔ Memᴰ k (index_list d xs))
+    → (before after : List ℤ) (answer : Result ℕ Refusal) → length before ≡ 512 * d → (call : CornerCall d ys before after answer)
+    → (answer ≡ Ok (length call.list)) × ((k : List ℤ) → Memᴰ k (index_list d (take (length call.list * d) after)) ↔ Memᴰ k (index_list d xs))
 maximal-list d xs ys low whole some few tops =
-    same_list d xs ys low whole some few (λ c m. ((tops c).0 m).listed) (maximal_members (index_list d xs) (index_list d ys) low.1 tops)
+    same_list d xs ys low whole some few (λ c m. ((tops c).0 m).listed) (maximal_members (index_list d xs) (index_list d ys) (low.1.yes refl) tops)
 
 -- and by all its rows
 pub own-list :
-    (d : ℕ) (xs : List ℤ) → LowerCall d xs lowness.Lower → 1 ≤ row_count d xs → row_count d xs ≤ 32
-    → (before after : List ℤ) (answer : RowCount) → length before ≡ 512 * d → (call : CornerCall d xs before after answer)
-    → (answer ≡ Rows (length call.list)) × ((k : List ℤ) → Memᴰ k (index_list d (take (length call.list * d) after)) ↔ Memᴰ k (index_list d xs))
+    (d : ℕ) (xs : List ℤ) → LowerCall d xs (Ok true) → 1 ≤ row_count d xs → row_count d xs ≤ 32
+    → (before after : List ℤ) (answer : Result ℕ Refusal) → length before ≡ 512 * d → (call : CornerCall d xs before after answer)
+    → (answer ≡ Ok (length call.list)) × ((k : List ℤ) → Memᴰ k (index_list d (take (length call.list * d) after)) ↔ Memᴰ k (index_list d xs))
 unfolding lower_refusal
-own-list d xs low some few = same_list d xs xs low (list_length 1 d xs low.0).0 some few (λ c m. m) (lower_members (index_list d xs) low.1)
+own-list d xs low some few = same_list d xs xs low (list_length 1 d xs low.0).0 some few (λ c m. m) (lower_members (index_list d xs) (low.1.yes refl))

@@ -4,7 +4,7 @@ use mathlib.Core.Path.{◌≡◌, refl, sym, ◌∙◌, ap, subst}
 use mathlib.Core.Bool.{Bool, true, false, cond, ◌||◌, true≢false}
 use mathlib.Core.List.Memᴰ
 use mathlib.Core.List.{List, [], ◌∷◌, ◌++◌, Memᴰ}
-use Prim.Native.Nat.{ℕ, ◌+◌, ◌*◌, ◌-◌, ◌≤◌}
+use Prim.Native.Nat.{ℕ, ◌+◌, ◌*◌, ◌≤◌}
 use native.Mathlib.Numerals.{add-one}
 use native.Mathlib.Omega.{arith}
 use borrow.Author.Tests.{leb-true, eqb-true, eqb-false}
@@ -27,7 +27,6 @@ use Rattle.rank1.proofs.RefusalLaws.{first_of_none}
 use Rattle.rank1.proofs.ValidLaws.{plan_clear, tally_clear}
 use Rattle.rank1.proofs.LongerLaws.{any-more, Longer}
 use Rattle.rank1.proofs.BoundLaws.{ValidRows, different-length, valid_rows}
-use Rattle.refusal.proofs.InputLaws.{part-row, part_long}
 use Rattle.lists.specs.Rows.{most_axes, on_axes}
 use Rattle.lists.specs.Inner.{members, summed, more, Addable}
 use Rattle.lists.proofs.MaskLaws.{on_axes_lem, mask_none, mask_some}
@@ -118,21 +117,16 @@ more_is plan t k c mask short e f =
         (λ h. sym (mask_none k mask bits (eqb-true mask 0 h)))
         (λ h p. mask_some k mask bits (eqb-false mask 0 h) (sym p))
 
--- ---- the first i rows of a run, row by row
-module _ (plan d : ℕ) (xs : List ℤ) (i at : ℕ) (e : at ≡ i * d) (h : at + d ≤ length xs) where
-  -- the part of the run that is the next row
-  abbrev next : List ℤ
-  next = take (at + d - at) (drop at xs)
-
-  pub counted-turn : (t r : Tally) → t ≡ summed plan d (rows_of d i xs) → r ≡ more plan (length next) t next → r ≡ summed plan d (rows_of d (i + 1) xs)
-  counted-turn t r f g =
-      g
-      ∙ ap (λ (k : ℕ). more plan k t next) (part_long xs d at h)
-      ∙ ap (more plan d t) (part-row xs d at ∙ ap (λ (k : ℕ). take d (drop k xs)) e)
-      ∙ ap (λ (u : Tally). more plan d u (take d (drop (i * d) xs))) f
-      ∙ sym (summed-more plan d (rows_of d i xs) (take d (drop (i * d) xs)))
-      ∙ ap (summed plan d) (sym (rows_snoc d i xs))
-      ∙ ap (λ (k : ℕ). summed plan d (rows_of d k xs)) (sym (add-one i))
+-- ---- the first i rows of a run, row by row: the next one is the d numbers from place i × d on
+pub counted-turn : (plan d : ℕ) (xs : List ℤ) (i : ℕ) (t r : Tally) (row : List ℤ) → row ≡ take d (drop (i * d) xs) → length row ≡ d → t ≡ summed plan d (rows_of d i xs) → r ≡ more plan (length row) t row → r ≡ summed plan d (rows_of d (i + 1) xs)
+counted-turn plan d xs i t r row next long so_far g =
+    g
+    ∙ ap (λ (k : ℕ). more plan k t row) long
+    ∙ ap (more plan d t) next
+    ∙ ap (λ (u : Tally). more plan d u (take d (drop (i * d) xs))) so_far
+    ∙ sym (summed-more plan d (rows_of d i xs) (take d (drop (i * d) xs)))
+    ∙ ap (summed plan d) (sym (rows_snoc d i xs))
+    ∙ ap (λ (k : ℕ). summed plan d (rows_of d k xs)) (sym (add-one i))
 
 -- a row can be added to their record
 pub counted_addable : (plan d : ℕ) (xs : List ℤ) (i : ℕ) (t : Tally) (k : List ℤ) → i ≤ 512 → d ≤ 6 → i * d ≤ length xs → length k ≡ d → t ≡ summed plan d (rows_of d i xs) → Addable t k

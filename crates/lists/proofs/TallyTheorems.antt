@@ -1,5 +1,5 @@
--- What the promises of the three calls say together (document 02, b). A record that counting gave is the list's recount and is never
--- refused; every modulus below what it gives is hopeless; and adding a row is counting the longer list.
+-- What the promises of the three calls say together (document 02, b). A call has one outcome. A record that counting gave is the list's
+-- recount and is never refused; every modulus below what it gives is hopeless; and adding a row is counting the longer list.
 use mathlib.Core.Path.{◌≡◌, refl, sym, ◌∙◌, ap, subst}
 use mathlib.Core.List.{List, [], ◌∷◌, ◌++◌}
 use Prim.Native.Nat.{ℕ, zero, suc, ◌<◌, ◌≤◌}
@@ -15,15 +15,27 @@ use Rattle.rank1.specs.Valid.{ValidList}
 use Rattle.rank1.proofs.RefusalLaws.{first_of_none, first_of_none_append}
 use Rattle.rank1.proofs.ValidLaws.{plan_clear, row_clear, other_clear, valid_list}
 use Rattle.rank1.proofs.BoundLaws.{valid_rows, bound_hopeless, bound_fits, bound_some}
-use Rattle.lists.specs.declared.Counted.TheVariants.{Kept}
-use Rattle.lists.specs.declared.Least.TheVariants.{Modulus}
-use Rattle.lists.specs.Answer.{counted_or, tally_answer, add_answer, least_answer}
+use Rattle.std.specs.Prelude.{Result, Ok}
+use mathlib.Core.Logic.{◌↔◌}
+use Rattle.rank1.specs.declared.Refusal.{Refusal}
+use Rattle.rank1.specs.Named.{Answers}
+use Rattle.rank1.proofs.NamedLaws.{answers_same}
+use Rattle.lists.specs.Answer.{TallyCall, AddCall, LeastCall}
 use Rattle.lists.proofs.RecountLaws.{recount_kept}
-use Rattle.lists.proofs.CallLaws.{modulus_found}
-use Rattle.lists.proofs.AnswerLaws.{or_kept, tally_kept_is, modulus_is}
+use Rattle.lists.proofs.AnswerLaws.{tally_kept_is, modulus_is}
+
+-- ---- one outcome
+pub tally_determined : (plan d : ℕ) (xs : List ℤ) (r s : Result Tally Refusal) → TallyCall plan d xs r → TallyCall plan d xs s → r ≡ s
+tally_determined plan d xs r s p q = answers_same (tally_refusal plan d xs) (recount plan d (index_list d xs)) r s p q
+
+pub add_determined : (plan d : ℕ) (xs : List ℤ) (t : Tally) (row : List ℤ) (r s : Result Tally Refusal) → AddCall plan d xs t row r → AddCall plan d xs t row s → r ≡ s
+add_determined plan d xs t row r s p q = answers_same (add_refusal plan d xs t row) (recount plan d (index_list d (xs ++ row))) r s p q
+
+pub least_determined : (plan : ℕ) (t : Tally) (r s : Result ℕ Refusal) → LeastCall plan t r → LeastCall plan t s → r ≡ s
+least_determined plan t r s p q = answers_same (least_refusal plan t) (least_modulus plan t) r s p q
 
 -- ---- a record that counting gave
-module _ (plan d : ℕ) (xs : List ℤ) (t : Tally) (kept : Kept t ≡ tally_answer plan d xs) where
+module _ (plan d : ℕ) (xs : List ℤ) (t : Tally) (kept : TallyCall plan d xs (Ok t)) where
   -- it is the recount
   pub kept_recount : t ≡ recount plan d (index_list d xs)
   kept_recount = (tally_kept_is plan d xs t kept).1
@@ -36,14 +48,14 @@ module _ (plan d : ℕ) (xs : List ℤ) (t : Tally) (kept : Kept t ≡ tally_ans
       ((plan_clear plan).0 none.0, valid_list plan d xs none.1)
 
   -- the least modulus call does not refuse it
-  pub kept_least : Modulus (least_modulus plan t) ≡ least_answer plan t
+  pub kept_least : LeastCall plan t (Ok (least_modulus plan t))
   kept_least =
       let v = kept_valid in
-      modulus_found plan t (least_modulus plan t) (sym (ap (least_refusal plan) kept_recount ∙ recount_kept plan d xs v.1 v.0)) refl
+      (ap (least_refusal plan) kept_recount ∙ recount_kept plan d xs v.1 v.0, refl)
 
   -- with what that call gives: it is a modulus, every smaller one fails with every vector of whole numbers, and one that does not fail is
   -- not smaller
-  module _ (b : ℕ) (found : Modulus b ≡ least_answer plan t) where
+  module _ (b : ℕ) (found : LeastCall plan t (Ok b)) where
     bound_is : b ≡ least_modulus plan (recount plan d (index_list d xs))
     bound_is = (modulus_is plan t b found).1 ∙ ap (least_modulus plan) kept_recount
 
@@ -71,23 +83,26 @@ last_none (zero ∷ ks) = last_none ks
 last_none (suc k ∷ ks) = refl
 
 module _ (plan d : ℕ) (xs row : List ℤ) (t : Tally) where
-  -- with the list's own record and a row of d numbers, adding answers as counting the longer list does, refused or not
-  pub add-counts : t ≡ recount plan d (index_list d xs) → length row ≡ d → add_answer plan d xs t row ≡ tally_answer plan d (xs ++ row)
-  unfolding add_answer tally_answer add_refusal tally_refusal
-  add-counts e long =
-      ap (λ (k : ℕ). counted_or k (recount plan d (index_list d (xs ++ row))))
-      (ap (λ (k : ℕ). first_of (bad_plan plan ∷ longer_conditions plan d xs row ++ (k ∷ []))) ((other_clear t (recount plan d (index_list d xs))).1 e)
+  longer : List ℕ
+  longer = bad_length d (xs ++ row) ∷ bad_component plan (xs ++ row) ∷ equal_rows d (xs ++ row) ∷ []
+
+  same_refusal : t ≡ recount plan d (index_list d xs) → length row ≡ d → add_refusal plan d xs t row ≡ tally_refusal plan d (xs ++ row)
+  unfolding longer add_refusal tally_refusal
+  same_refusal e long =
+      ap (λ (k : ℕ). first_of (bad_plan plan ∷ longer_conditions plan d xs row ++ (k ∷ []))) ((other_clear t (recount plan d (index_list d xs))).1 e)
       ∙ last_none (bad_plan plan ∷ longer_conditions plan d xs row)
       ∙ ap (λ (k : ℕ). first_of (bad_plan plan ∷ bad_axes d ∷ k ∷ longer)) ((row_clear d row).1 long)
-      ∙ second_none (bad_plan plan) (bad_axes d) longer)
-    where
-      longer : List ℕ
-      longer = bad_length d (xs ++ row) ∷ bad_component plan (xs ++ row) ∷ equal_rows d (xs ++ row) ∷ []
+      ∙ second_none (bad_plan plan) (bad_axes d) longer
+
+  -- with the list's own record and a row of d numbers, adding answers as counting the longer list does, refused or not
+  pub add-counts : t ≡ recount plan d (index_list d xs) → length row ≡ d → (answer : Result Tally Refusal) → AddCall plan d xs t row answer ↔ TallyCall plan d (xs ++ row) answer
+  add-counts e long answer =
+      let told = λ (k : ℕ). Answers k (recount plan d (index_list d (xs ++ row))) answer in
+      (subst told (same_refusal e long), subst told (sym (same_refusal e long)))
 
   -- a record that adding gave is the recount of the longer list, and the one handed in was that of the list
-  pub added_recount : (u : Tally) → Kept u ≡ add_answer plan d xs t row → (u ≡ recount plan d (index_list d (xs ++ row))) × (t ≡ recount plan d (index_list d xs))
-  unfolding add_answer add_refusal
+  pub added_recount : (u : Tally) → AddCall plan d xs t row (Ok u) → (u ≡ recount plan d (index_list d (xs ++ row))) × (t ≡ recount plan d (index_list d xs))
+  unfolding add_refusal
   added_recount u kept =
-      let k = or_kept (add_refusal plan d xs t row) (recount plan d (index_list d (xs ++ row))) u kept in
-      let last = (first_of_none_append (bad_plan plan ∷ longer_conditions plan d xs row) (other_tally t (recount plan d (index_list d xs)) ∷ [])).0 k.0 in
-      (k.1, (other_clear t (recount plan d (index_list d xs))).0 ((first_of_none (other_tally t (recount plan d (index_list d xs))) []).0 last.1).0)
+      let last = (first_of_none_append (bad_plan plan ∷ longer_conditions plan d xs row) (other_tally t (recount plan d (index_list d xs)) ∷ [])).0 kept.0 in
+      (kept.1, (other_clear t (recount plan d (index_list d xs))).0 ((first_of_none (other_tally t (recount plan d (index_list d xs))) []).0 last.1).0)

@@ -1,6 +1,6 @@
 -- What private functions ask and say: a list counted row by row, and a row more; the rows up to some corner, one after the other; and
 -- whether a list is lower, by components one lower. Nothing here is in a public contract.
-use Rattle.std.specs.Prelude.{◌≡◌, ◌⊎◌, Bool, true, false, ◌||◌, ℕ, zero, suc, ◌+◌, ◌-◌, ◌*◌, ◌≤◌, ◌<◌, T, ℤ, pos, negsuc, ◌+ℤ◌, length, get_or, take, set, replicate}
+use Rattle.std.specs.Prelude.{◌≡◌, ◌⊎◌, Option, None, Some, Bool, true, false, ◌||◌, ℕ, zero, suc, ◌+◌, ◌-◌, ◌*◌, ◌≤◌, ◌<◌, T, ℤ, pos, negsuc, ◌+ℤ◌, length, get_or, take, set, replicate}
 use mathlib.Core.List.{List, [], ◌∷◌, Memᴰ}
 use Rattle.rank1.specs.declared.Tally.{Tally}
 use Rattle.rank1.specs.Tests.{any, same_row}
@@ -23,11 +23,11 @@ summed plan d ks = record { m = length ks; size = members plan ks; zero = zero_i
 abbrev pub more : ℕ → ℕ → Tally → List ℤ → Tally
 more plan d t k = record { m = t.m + 1; size = t.size + length (mirrors_under plan k); zero = t.zero || same_row (zero_row d) k }
 
--- the first m rows of a run can be counted
-pub record Countable (d m : ℕ) (xs : List ℤ) : Type 0 where
-  pub fits : m * d ≤ length xs
+-- the rows of a run can be counted
+pub record Countable (d : ℕ) (xs : List ℤ) : Type 0 where
+  pub some_axes : 1 ≤ d
   pub few_axes : d ≤ most_axes
-  pub few_rows : m ≤ 512
+  pub few_rows : row_count d xs ≤ 512
 
 -- a row can be added to a record
 pub record Addable (t : Tally) (k : List ℤ) : Type 0 where
@@ -52,10 +52,9 @@ pub record ValidCorners (d : ℕ) (xs : List ℤ) : Type 0 where
   pub some_rows : 1 ≤ row_count d xs
   pub small : (c : List ℤ) → Memᴰ c (index_list d xs) → T (under c (replicate d (pos 255)))
 
--- what looking for the next row asks: valid corners, m of them, and a row up to some of them
-pub record Raisable (m : ℕ) (xs row : List ℤ) : Type 0 where
+-- what looking for the next row asks: valid corners, and a row up to some of them
+pub record Raisable (xs row : List ℤ) : Type 0 where
   pub valid : ValidCorners (length row) xs
-  pub count : m ≡ row_count (length row) xs
   pub within : T (under_some (index_list (length row) xs) row)
 
 -- r is the first row after k that is up to some corner
@@ -73,20 +72,18 @@ pub record Stepped (cs : List (List ℤ)) (k after : List ℤ) (answer : Bool) :
   pub more : answer ≡ true → NextRow cs k after
   pub none : answer ≡ false → LastRow cs k
 
--- what writing the rows of the corners' list gives: their number, with all of them at the front, or a number above 512 where there are more
-pub record Filled (d : ℕ) (cs : List (List ℤ)) (after : List ℤ) (answer : ℕ) : Type 0 where
+-- what writing the rows ks gives: their number, at most 512, with all of them at the front; or that there are more
+abbrev pub Written : ℕ → List (List ℤ) → List ℤ → Option ℕ → Type 0
+Written d ks after (Some m) = (m ≡ length ks) × (m ≤ most_rows) × (take (m * d) after ≡ run_of ks)
+Written d ks after None = most_rows < length ks
+
+-- so for the corners' list
+pub record Filled (d : ℕ) (cs : List (List ℤ)) (after : List ℤ) (answer : Option ℕ) : Type 0 where
   pub list : List (List ℤ)
   pub is : CornerList cs list
-  pub all : answer ≤ most_rows → (answer ≡ length list) × (take (answer * d) after ≡ run_of list)
-  pub more : most_rows < answer → most_rows < length list
+  pub written : Written d list after answer
 
 -- ---- lower lists, by steps (02, c)
--- the row of 1 to 6 components that starts at a place lies within the run
-pub record RowWithin (d at : ℕ) (xs : List ℤ) : Type 0 where
-  pub some_axes : 1 ≤ d
-  pub few_axes : d ≤ most_axes
-  pub fits : at + d ≤ length xs
-
 -- component j of the row k is x: it is not negative and, if it is not 0, k with it one lower is in the list
 abbrev pub steps : List (List ℤ) → List ℤ → ℕ → ℤ → Bool
 steps ks k j (pos zero) = true

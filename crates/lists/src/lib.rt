@@ -1,6 +1,7 @@
 // Calls about lists alone (document 02): the running tally, request b, and lists given by corners, request c. Every public call takes
-// any arguments, and refuses wrong ones by number before it writes anything. What is counted of one row, and copying one, serve the
-// planner too.
+// any arguments, and refuses wrong ones before it writes anything. What is counted of one row serves the planner too.
+// kept: the plan is a number, and d and the rows stand apart in the public calls: any may be passed, and C passes them so. The private ones take
+// d and the rows from them, each once: a struct of the two would be made for one call.
 
 #![tactic(auto)]
 
@@ -8,16 +9,14 @@ mod bound;
 mod corners;
 mod counting;
 mod lower;
-mod rows;
 
-ghost use Rattle.std.specs.Prelude.{◌≡◌, not, ◌^◌, ◌≤◌, ◌<◌, length};
+ghost use Rattle.std.specs.Prelude.{◌≡◌, ◌^◌, ◌<◌, length};
 ghost use Rattle.std.specs.Int.Count.{ones};
 ghost use Rattle.rank1.specs.Index.{mirrors, nonzeros};
-ghost use Rattle.rank1.specs.Refusal.{within};
 ghost use Rattle.lists.specs.Rows.{most_axes, on_axes, placed};
-ghost use Rattle.lists.specs.Answer.{tally_answer, add_answer, least_answer, CornerCall, LowerCall};
+ghost use Rattle.lists.specs.Answer.{TallyCall, AddCall, LeastCall, CornerCall, LowerCall};
 
-use rank1::Tally;
+use rank1::{Plan, Refusal, Tally};
 
 // The largest number of axes, and of rows; the numbers that so many rows have at most.
 const AXES: usize = 6;
@@ -33,175 +32,96 @@ const MOST_CORNERS: usize = 32;
 pub fn copy_row(row: &[i16], run: &mut [i16], at: usize)
     ensures { run.new ≡ placed at row.now run.old }
 {
-    if run.len() < at {
-        return;
+    if at <= run.len() && row.len() <= run.len() - at {
+        run[at..at + row.len()].copy_from_slice(row);
     }
-    if run.len() - at < row.len() {
-        return;
-    }
-    rows::copy(row, run, at);
-}
-
-// The axes on which a row of at most six components is not 0, as bits.
-fn mask_of(row: &[i16]) -> u32
-    requires { length row.now ≤ most_axes }
-    ensures { (ones result ≡ nonzeros row.now) × (result < 2 ^ length row.now) }
-{
-    let mut mask: u32 = 0;
-    for j in 0..row.len() {
-        if row[j] != 0 {
-            mask |= 1 << j;
-        }
-    }
-    mask
 }
 
 // The axes on which a row is not 0, as bits; of a row with more than six components the first six count.
 pub fn nonzero_mask(row: &[i16]) -> u32
     ensures { (ones result ≡ nonzeros (on_axes row.now)) × (result < 2 ^ most_axes) }
 {
-    if AXES < row.len() {
-        mask_of(&row[..AXES])
-    } else {
-        mask_of(row)
+    let counted = &row[..row.len().min(AXES)];
+    let mut mask: u32 = 0;
+    for (j, x) in counted.iter().enumerate() {
+        if *x != 0 {
+            mask |= 1 << j;
+        }
     }
+    mask
 }
 
 // How many mirrors a row has: 2 to the number of its non-zero components; of a row with more than six components the first six count.
 pub fn mirror_count(row: &[i16]) -> usize
     ensures { result ≡ length (mirrors (on_axes row.now)) }
 {
-    1 << u32::count_ones(nonzero_mask(row))
-}
-
-// What counting a list, or a row more, answers: the record, or a refusal.
-#[derive(Clone, Copy)]
-pub enum Counted {
-    Kept(Tally),
-    Refused(u8),
+    1 << nonzero_mask(row).count_ones()
 }
 
 // The record of a whole list.
-pub fn tally_list(plan: u8, d: usize, rows: &[i16]) -> Counted
-    ensures { result ≡ tally_answer plan d rows.now }
+#[tactic(auto, unfolding(rank1::specs::Refusal::tally_refusal))]
+pub fn tally_list(plan: u8, d: usize, rows: &[i16]) -> Result<Tally, Refusal>
+    ensures { TallyCall plan d rows.now result }
 {
-    let named = refusal::plan_refusal(plan);
-    if named != 0 {
-        return Counted::Refused(named);
-    }
-    let listed = refusal::list_refusal(plan, d, rows);
-    if listed != 0 {
-        return Counted::Refused(listed);
-    }
-    Counted::Kept(counting::count(plan, d, rows, rows.len() / d))
+    let named = Plan::try_from(plan)?;
+    refusal::check_list(plan, d, rows)?;
+    Ok(counting::count(named, d, rows))
 }
 
 // One row more: the record of the longer list. The record that is handed in is held to the list.
-pub fn add_row(plan: u8, d: usize, rows: &[i16], tally: Tally, row: &[i16]) -> Counted
-    ensures { result ≡ add_answer plan d rows.now tally row.now }
+#[tactic(auto, unfolding(rank1::specs::Refusal::add_refusal))]
+pub fn add_row(
+    plan: u8,
+    d: usize,
+    rows: &[i16],
+    tally: Tally,
+    row: &[i16],
+) -> Result<Tally, Refusal>
+    ensures { AddCall plan d rows.now tally row.now result }
 {
-    let named = refusal::plan_refusal(plan);
-    if named != 0 {
-        return Counted::Refused(named);
+    let named = Plan::try_from(plan)?;
+    refusal::check_longer(plan, d, rows, row)?;
+    let counted = counting::count(named, d, rows);
+    if tally != counted {
+        return Err(Refusal::Length);
     }
-    let longer = refusal::longer_refusal(plan, d, rows, row);
-    if longer != 0 {
-        return Counted::Refused(longer);
-    }
-    let counted = counting::count(plan, d, rows, rows.len() / d);
-    if counting::same_tally(tally, counted) {
-        Counted::Kept(counting::plus(plan, counted, row))
-    } else {
-        Counted::Refused(3)
-    }
-}
-
-// What the least modulus call answers: the modulus, or a refusal.
-#[derive(Clone, Copy)]
-pub enum Least {
-    Modulus(u16),
-    Refused(u8),
+    Ok(counting::plus(named, counted, row))
 }
 
 // The least modulus worth trying, from the record alone.
-pub fn least_modulus(plan: u8, tally: Tally) -> Least
-    ensures { result ≡ least_answer plan tally }
+#[tactic(auto, unfolding(rank1::specs::Refusal::least_refusal))]
+pub fn least_modulus(plan: u8, tally: Tally) -> Result<u16, Refusal>
+    ensures { LeastCall plan tally result }
 {
-    let named = refusal::plan_refusal(plan);
-    if named != 0 {
-        return Least::Refused(named);
-    }
-    let kept = bound::tally_refusal(tally);
-    if kept != 0 {
-        return Least::Refused(kept);
-    }
-    Least::Modulus(bound::least_of(plan, tally) as u16)
-}
-
-// What a call answers that writes rows to the front of a lent run: how many there are, or a refusal.
-#[derive(Clone, Copy)]
-pub enum RowCount {
-    Rows(usize),
-    Refused(u8),
-}
-
-// Condition 13 of the number of corners: not 1 to 32.
-fn corners_outside(m: usize) -> bool
-    ensures { result ≡ not (within 1 32 m) }
-{
-    if m < 1 {
-        return true;
-    }
-    MOST_CORNERS < m
+    let named = Plan::try_from(plan)?;
+    bound::check_tally(tally)?;
+    Ok(bound::least_of(named, tally) as u16)
 }
 
 // The list of the corners: fills the front of `out` with its rows. They are made in places of our own, since 13 stands before 8.
-pub fn corner_list(d: usize, corners: &[i16], out: &mut [i16]) -> RowCount
+pub fn corner_list(d: usize, corners: &[i16], out: &mut [i16]) -> Result<usize, Refusal>
     ensures { CornerCall d corners.now out.old out.new result }
 {
-    let refused = refusal::corner_refusal(d, corners);
-    if refused != 0 {
-        return RowCount::Refused(refused);
-    }
+    refusal::check_corners(d, corners)?;
     let m = corners.len() / d;
-    if corners_outside(m) {
-        return RowCount::Refused(13);
+    if m < 1 || MOST_CORNERS < m {
+        return Err(Refusal::Corners);
     }
     let mut rows = [0i16; ROW_ROOM];
-    let count = corners::fill(d, corners, m, &mut rows);
-    if MOST_ROWS < count {
-        return RowCount::Refused(13);
-    }
-    let places = refusal::places_refusal(out.len(), MOST_ROWS * d);
-    if places != 0 {
-        return RowCount::Refused(places);
-    }
-    rows::copy(&rows[..count * d], out, 0);
-    RowCount::Rows(count)
+    let Some(count) = corners::fill(d, corners, &mut rows) else {
+        return Err(Refusal::Corners);
+    };
+    refusal::check_places(out.len(), MOST_ROWS * d)?;
+    out[..count * d].copy_from_slice(&rows[..count * d]);
+    Ok(count)
 }
 
-// Whether a list is lower, or a refusal.
-#[derive(Clone, Copy)]
-pub enum Lowness {
-    Lower,
-    NotLower,
-    Refused(u8),
-}
-
-// A plan under which components may be negative.
-const FOURIER: u8 = 1;
-
-// Whether a list is lower: with a row, every row without negative components that is nowhere larger is in too.
-pub fn is_lower(d: usize, rows: &[i16]) -> Lowness
+// Whether a list is lower: with a row, every row without negative components that is nowhere larger is in too. The list itself may have
+// negative components, as under plan 1; with one it is not lower.
+#[tactic(auto, unfolding(rank1::specs::Refusal::lower_refusal))]
+pub fn is_lower(d: usize, rows: &[i16]) -> Result<bool, Refusal>
     ensures { LowerCall d rows.now result }
 {
-    let refused = refusal::list_refusal(FOURIER, d, rows);
-    if refused != 0 {
-        return Lowness::Refused(refused);
-    }
-    if lower::list_steps(d, rows) {
-        Lowness::Lower
-    } else {
-        Lowness::NotLower
-    }
+    refusal::check_list(u8::from(Plan::Fourier), d, rows)?;
+    Ok(lower::list_steps(d, rows))
 }

@@ -1,58 +1,42 @@
 // Whether a list is lower (document 02, c): it is just where no component is negative and, with a row, each row that has one component
 // one lower is in too.
 
-ghost use Rattle.std.specs.Prelude.{◌≡◌, ◌+◌, ◌≤◌, ◌<◌, pos, get_or, take, drop, set};
+ghost use Rattle.std.specs.Prelude.{◌≡◌, ◌≤◌, ◌<◌, pos, get_or, length, set};
 ghost use Rattle.rank1.specs.Tests.{any, same_row, Decides};
 ghost use Rattle.rank1.specs.Index.{index_list};
 ghost use Rattle.lists.specs.Rows.{most_axes};
-ghost use Rattle.lists.specs.Inner.{down, RowWithin, steps, RowSteps, ListSteps};
+ghost use Rattle.lists.specs.Inner.{down, steps, RowSteps, ListSteps};
 
 use crate::AXES;
-use crate::rows::copy;
 
-// One less, down to 0.
-fn one_less(x: i16) -> i16
-    ensures { result ≡ down x }
+// Whether the row with component j one lower (down to 0) is one of the list.
+fn lowered_stands(row: &[i16], rows: &[i16], j: usize) -> bool
+    requires { (j < length row.now) × (length row.now ≤ most_axes) }
+    ensures { result ≡ any (same_row (set row.now j (down (get_or row.now j (pos 0))))) (index_list (length row.now) rows.now) }
 {
-    if x < 1 {
-        return 0;
-    }
-    x - 1
+    let mut places = [0i16; AXES];
+    let lowered = &mut places[..row.len()];
+    lowered.copy_from_slice(row);
+    lowered[j] = row[j].saturating_sub(1).max(0);
+    refusal::stands(lowered, rows)
 }
 
-// Whether the row that starts at `at`, with component j one lower, is one of the list.
-fn lowered_stands(d: usize, rows: &[i16], at: usize, j: usize) -> bool
-    requires { RowWithin d at rows.now × (j < d) }
-    ensures { result ≡ any (same_row (set (take d (drop at rows.now)) j (down (get_or rows.now (at + j) (pos 0))))) (index_list d rows.now) }
+// Whether component j of the row allows the list to be lower.
+fn component_steps(row: &[i16], rows: &[i16], j: usize) -> bool
+    requires { (j < length row.now) × (length row.now ≤ most_axes) }
+    ensures { result ≡ steps (index_list (length row.now) rows.now) row.now j (get_or row.now j (pos 0)) }
 {
-    let mut row = [0i16; AXES];
-    copy(&rows[at..at + d], &mut row, 0);
-    row[j] = one_less(rows[at + j]);
-    refusal::stands(&row[..d], rows)
-}
-
-// Whether component j of the row that starts at `at` allows the list to be lower.
-fn component_steps(d: usize, rows: &[i16], at: usize, j: usize) -> bool
-    requires { RowWithin d at rows.now × (j < d) }
-    ensures { result ≡ steps (index_list d rows.now) (take d (drop at rows.now)) j (get_or rows.now (at + j) (pos 0)) }
-{
-    let x = rows[at + j];
-    if x < 0 {
-        return false;
-    }
-    if x < 1 {
-        return true;
-    }
-    lowered_stands(d, rows, at, j)
+    let x = row[j];
+    x == 0 || (0 < x && lowered_stands(row, rows, j))
 }
 
 // Whether all its components do.
-fn row_steps(d: usize, rows: &[i16], at: usize) -> bool
-    requires { RowWithin d at rows.now }
-    ensures { Decides result (RowSteps (index_list d rows.now) (take d (drop at rows.now))) }
+fn row_steps(row: &[i16], rows: &[i16]) -> bool
+    requires { length row.now ≤ most_axes }
+    ensures { Decides result (RowSteps (index_list (length row.now) rows.now) row.now) }
 {
-    for j in 0..d {
-        if !component_steps(d, rows, at, j) {
+    for j in 0..row.len() {
+        if !component_steps(row, rows, j) {
             return false;
         }
     }
@@ -64,12 +48,10 @@ pub(crate) fn list_steps(d: usize, rows: &[i16]) -> bool
     requires { (1 ≤ d) × (d ≤ most_axes) }
     ensures { Decides result (ListSteps (index_list d rows.now)) }
 {
-    let mut at = 0;
-    for _i in 0..rows.len() / d {
-        if !row_steps(d, rows, at) {
+    for row in rows.chunks_exact(d) {
+        if !row_steps(row, rows) {
             return false;
         }
-        at += d;
     }
     true
 }

@@ -6,8 +6,9 @@ use Prim.Native.Nat.{ℕ, ◌<◌, ◌≤◌}
 use native.Mathlib.Omega.{arith}
 use lib.IntN.{ℤ, pos}
 use lib.ListN.{length}
-use Rattle.planner.specs.declared.Plan.{Plan}
-use Rattle.planner.specs.declared.Plan.TheVariants.{Found, Refused}
+use Rattle.std.specs.Prelude.{Result, Ok}
+use Rattle.rank1.specs.declared.Refusal.{Refusal}
+use Rattle.rank1.specs.Named.{refused}
 use Rattle.rank1.specs.Index.{index_list}
 use Rattle.rank1.specs.Search.{NoPlan}
 use Rattle.rank1.specs.Tally.{recount, least_modulus}
@@ -26,18 +27,18 @@ module _ (plan d : ℕ) (xs : List ℤ) (n : ℕ) (before after : List ℕ) (non
   valid = valid_search plan d xs n (length before) none
 
   -- at n, below the bound
-  pub vector-below-bound : (r : Plan) → VectorSearch plan d xs n before after r → n < least → r ≡ Refused 9
+  pub vector-below-bound : (r : Result ℕ Refusal) → VectorSearch plan d xs n before after r → n < least → refused r ≡ 9
   vector-below-bound r s l =
       (vector_refused_nine plan d xs n before after r none s).1 (bound_hopeless plan d (index_list d xs) n (valid_rows plan d xs valid.list) valid.modulus.low l)
 
   -- up to the ceiling n, below the bound
-  pub ceiling_below-bound : (r : Plan) → SmallestSearch plan d xs n before after r → n < least → r ≡ Refused 9
+  pub ceiling_below-bound : (r : Result ℕ Refusal) → SmallestSearch plan d xs n before after r → n < least → refused r ≡ 9
   unfolding NoPlan
   ceiling_below-bound r s l =
       (refused_nine plan d xs n before after r none s).1 (λ m h g. bound_hopeless plan d (index_list d xs) m (valid_rows plan d xs valid.list) h (omega (arith, l, g)))
 
   -- the plan that is found
-  pub smallest_from-bound : (m : ℕ) → SmallestSearch plan d xs n before after (Found m) → least ≤ m
+  pub smallest_from-bound : (m : ℕ) → SmallestSearch plan d xs n before after (Ok m) → least ≤ m
   smallest_from-bound m s =
-      let p = smallest_answer plan d xs n before after (Found m) none s in
+      let p = smallest_answer plan d xs n before after (Ok m) none s in
       bound_fits plan d (index_list d xs) m (map pos after) (valid_rows plan d xs valid.list) p.low p.gentlest.admissible

@@ -1,22 +1,23 @@
 -- What the public calls share: arguments that no condition from 1 to 7 refuses are valid, a valid call with the products of z is
--- what the private functions ask for, what an answer says of the lent places, and what a verdict says of the check.
+-- what the private functions ask for, and what an answer says of the lent places.
 use mathlib.Core.Path.{◌≡◌, refl, sym, ◌∙◌, ap}
-use mathlib.Core.Logic.{◌↔◌, ◌≢◌}
-use mathlib.Core.Bool.{Bool, true, false}
+use mathlib.Core.Logic.{◌≢◌}
 use mathlib.Core.List.{List, ◌++◌}
 use Prim.Native.Nat.{ℕ, zero, suc, ◌≤◌}
 use native.Mathlib.Omega.{arith}
 use lib.IntN.{ℤ, pos}
 use lib.ListN.{get_or-eq_default}
 use Rattle.rank1.specs.Index.{row_count}
+use Rattle.rank1.specs.Named.{plan_number}
 use Rattle.rank1.specs.Valid.{ValidList, ValidCall}
 use Rattle.rank1.specs.Refusal.{first_of, bad_plan, bad_map_plan, list_conditions, pair_conditions, table_conditions, check_refusal}
 use Rattle.rank1.proofs.IndexLaws.{member_length}
 use Rattle.rank1.proofs.RefusalLaws.{first_of_none, first_of_none_append}
 use Rattle.rank1.proofs.ValidLaws.{plan_clear, map_plan_clear, valid_list, valid_pair}
-use Rattle.planner.specs.declared.Verdict.TheVariants as answer
 use Rattle.planner.specs.Sizes.{largest_component}
-use Rattle.planner.specs.Answer.{verdict, written, Answered}
+use Rattle.planner.specs.Answer.{written, Answered}
+use Rattle.planner.specs.declared.list.Rows.{Rows}
+use Rattle.planner.specs.Lists.{Given}
 use Rattle.planner.specs.Inner.{Products, Covered, Ready}
 
 -- ---- valid arguments
@@ -54,6 +55,10 @@ module _ (plan d : ℕ) (xs : List ℤ) (n : ℕ) (z : List ℕ) where
     prepared = record { top = top; covers = covers; products = products };
   }
 
+-- ---- the rows that a call was given are valid as its arguments are
+pub given_valid : {plan d n : ℕ} {xs : List ℤ} {z : List ℕ} {rows : Rows} → Given plan d xs rows → ValidCall plan d xs n z → ValidCall (plan_number rows.plan) rows.d rows.numbers.now n z
+given_valid g v = rw g.plans (rw g.axes (rw g.numbers v))
+
 -- ---- the components of a valid list, in document 01's range
 pub covered_valid : (plan d : ℕ) (xs : List ℤ) → ValidList plan d xs → Covered largest_component xs
 covered_valid plan d xs v = record { narrow = omega arith; covered = v.small }
@@ -85,19 +90,3 @@ module _ {A : Type 0} where
   -- two outcomes on the same arguments are the same number and the same content
   pub determined : {refusal r r' : ℕ} {result before after after' : List A} → Answered refusal result before after r → Answered refusal result before after' r' → (r ≡ r') × (after ≡ after')
   determined a b = (a.number ∙ sym b.number, a.places ∙ sym b.places)
-
--- ---- the check: what a verdict says of the refusal's number and of the test
-pub verdict_yes : (k : ℕ) (b : Bool) → (verdict k b ≡ answer.Admissible) ↔ ((k ≡ 0) × (b ≡ true))
-verdict_yes zero true = ((λ e. (refl, refl)), (λ p. refl))
-verdict_yes zero false = ((λ e. absurd (let x : ◌≡◌ {A = ℕ} 0 1 = cc in omega arith)), (λ p. ap (verdict 0) p.1))
-verdict_yes (suc k) b = ((λ e. absurd (let x : ◌≡◌ {A = ℕ} 0 1 = cc in omega arith)), (λ p. absurd (omega arith)))
-
-pub verdict_no : (k : ℕ) (b : Bool) → (verdict k b ≡ answer.Inadmissible) ↔ ((k ≡ 0) × (b ≡ false))
-verdict_no zero true = ((λ e. absurd (let x : ◌≡◌ {A = ℕ} 0 1 = cc in omega arith)), (λ p. ap (verdict 0) p.1))
-verdict_no zero false = ((λ e. (refl, refl)), (λ p. refl))
-verdict_no (suc k) b = ((λ e. absurd (let x : ◌≡◌ {A = ℕ} 0 1 = cc in omega arith)), (λ p. absurd (omega arith)))
-
-pub verdict_refused : (k m : ℕ) (b : Bool) → (verdict k b ≡ answer.Refused m) ↔ ((k ≡ m) × (m ≢ 0))
-verdict_refused zero m true = ((λ e. absurd (let x : ◌≡◌ {A = ℕ} 0 1 = cc in omega arith)), (λ p. absurd (p.1 (sym p.0))))
-verdict_refused zero m false = ((λ e. absurd (let x : ◌≡◌ {A = ℕ} 0 1 = cc in omega arith)), (λ p. absurd (p.1 (sym p.0))))
-verdict_refused (suc k) m b = ((λ e. let same : suc k ≡ m = cc in (same, λ none. omega arith)), (λ p. ap answer.Refused p.0))

@@ -2,13 +2,16 @@
 -- document 00, 01 or 02 that it meets.
 use mathlib.Core.Path.{◌≡◌, refl, sym, ◌∙◌, ap}
 use mathlib.Core.Logic.{◌↔◌, ◌⊎◌, ◌≢◌, inl, inr, ⊎_elim}
-use mathlib.Core.Bool.{true}
+use mathlib.Core.Bool.{Bool, true, false}
 use mathlib.Core.List.{List, [], map, Memᴰ}
 use Prim.Native.Nat.{ℕ, ◌+◌, ◌*◌, ◌-◌, ◌%◌, ◌<◌, ◌≤◌}
 use native.Mathlib.Omega.{arith}
 use denote.Ref.{Bor}
 use lib.IntN.{ℤ, pos}
 use lib.ListN.{length, get_or}
+use Rattle.std.specs.Prelude.{Result, Ok}
+use Rattle.rank1.specs.declared.Refusal.{Refusal}
+use Rattle.rank1.specs.Named.{refused}
 use Rattle.rank1.specs.Tests.{every, up_to}
 use Rattle.rank1.specs.Residue.{residue_at}
 use Rattle.rank1.specs.Index.{row_count, index_list}
@@ -20,6 +23,7 @@ use Rattle.rank1.specs.declared.TentCase.{TentCase}
 use Rattle.rank1.specs.Tent.{Meets, numerator}
 use Rattle.rank1.specs.Search.{Gentler}
 use Rattle.rank1.specs.Refusal.{check_refusal, map_refusal, spread_refusal, gather_refusal, point_refusal}
+use Rattle.rank1.proofs.NamedLaws.{answers_ok, answers_refused, answers_same}
 use Rattle.rank1.proofs.UpTo.{length-map-up_to}
 use Rattle.rank1.proofs.IndexLaws.{rows-length}
 use Rattle.rank1.proofs.TestLaws.{every_true}
@@ -30,37 +34,38 @@ use Rattle.rank1.proofs.GatherLaws.{gather_spread, gather_passes, reads_terms}
 use Rattle.rank1.proofs.PointLaws.{lines_whole, coordinate_twin, omitting, omitted}
 use Rattle.rank1.proofs.TentLaws.{coordinate_case}
 use Rattle.rank1.proofs.WinnerLaws.{shorter_wins, longer_loses, gentler_wins, rougher_loses, equal_wins, one_wins}
-use Rattle.planner.specs.declared.Verdict.{Verdict}
-use Rattle.planner.specs.declared.Verdict.TheVariants as answer
-use Rattle.planner.specs.Answer.{check_answer, written, Answered, ResidueMapCall, SpreadCall, GatherCall, PointListCall, GentlerCall}
-use Rattle.planner.proofs.CallLaws.{written_kept, written_result, determined, verdict_yes, verdict_no, verdict_refused}
+use Rattle.planner.specs.Answer.{CheckCall, written, Answered, ResidueMapCall, SpreadCall, GatherCall, PointListCall, GentlerCall}
+use Rattle.planner.proofs.CallLaws.{written_kept, written_result, determined}
 use Rattle.planner.proofs.refusals.HandedLaws.{SpreadHanded, spread_clear, gather_answers, reads_number, point_clear}
 use Rattle.planner.proofs.points.PointSteps.{points_length, points_at}
 
 -- ---- check
-module _ (plan d : ℕ) (xs : List ℤ) (n : ℕ) (z : List ℕ) (r : Verdict) (told : r ≡ check_answer plan d xs n z) where
+module _ (plan d : ℕ) (xs : List ℤ) (n : ℕ) (z : List ℕ) (r : Result Bool Refusal) (told : CheckCall plan d xs n z r) where
   -- "The check says yes exactly when the pair n, z meets the published rule of the plan named" (document 00, demand 2)
-  pub check_yes : (r ≡ answer.Admissible) ↔ ((check_refusal plan d xs n z ≡ 0) × Admissible plan (index_list d xs) n (map pos z))
-  unfolding check_answer
+  pub check_yes : (r ≡ Ok true) ↔ ((check_refusal plan d xs n z ≡ 0) × Admissible plan (index_list d xs) n (map pos z))
+  unfolding CheckCall
   check_yes =
-      let v = verdict_yes (check_refusal plan d xs n z) (admissible plan (index_list d xs) n (map pos z)) in
+      let v = answers_ok (check_refusal plan d xs n z) (admissible plan (index_list d xs) n (map pos z)) true r told in
       let rule = rule_true (index_list d xs) n (map pos z) plan in
-      ((λ e. let p = v.0 (sym told ∙ e) in (p.0, rule.0 p.1)), (λ p. told ∙ v.1 (p.0, rule.1 p.1)))
+      ((λ e. let p = v.0 e in (p.0, rule.0 p.1)), (λ p. v.1 (p.0, rule.1 p.1)))
 
   -- no exactly where it does not, and both "never before the input is known to be valid" (document 01, "The five plan rules")
-  pub check_no : (r ≡ answer.Inadmissible) ↔ ((check_refusal plan d xs n z ≡ 0) × (Admissible plan (index_list d xs) n (map pos z) → ⊥))
-  unfolding check_answer
+  pub check_no : (r ≡ Ok false) ↔ ((check_refusal plan d xs n z ≡ 0) × (Admissible plan (index_list d xs) n (map pos z) → ⊥))
+  unfolding CheckCall
   check_no =
-      let v = verdict_no (check_refusal plan d xs n z) (admissible plan (index_list d xs) n (map pos z)) in
+      let v = answers_ok (check_refusal plan d xs n z) (admissible plan (index_list d xs) n (map pos z)) false r told in
       let rule = rule_false (index_list d xs) n (map pos z) plan in
-      ((λ e. let p = v.0 (sym told ∙ e) in (p.0, rule.0 p.1)), (λ p. told ∙ v.1 (p.0, rule.1 p.1)))
+      ((λ e. let p = v.0 e in (p.0, rule.0 p.1)), (λ p. v.1 (p.0, rule.1 p.1)))
 
   -- "the first that applies is returned as the number alone" (document 01, "Refusal table")
-  pub check_refused : (k : ℕ) → (r ≡ answer.Refused k) ↔ ((check_refusal plan d xs n z ≡ k) × (k ≢ 0))
-  unfolding check_answer
-  check_refused k =
-      let v = verdict_refused (check_refusal plan d xs n z) k (admissible plan (index_list d xs) n (map pos z)) in
-      ((λ e. v.0 (sym told ∙ e)), (λ p. told ∙ v.1 p))
+  pub check_refused : refused r ≡ check_refusal plan d xs n z
+  unfolding CheckCall
+  check_refused = answers_refused (check_refusal plan d xs n z) (admissible plan (index_list d xs) n (map pos z)) r told
+
+-- one answer alone
+pub check_one : (plan d : ℕ) (xs : List ℤ) (n : ℕ) (z : List ℕ) (r r' : Result Bool Refusal) → CheckCall plan d xs n z r → CheckCall plan d xs n z r' → r ≡ r'
+unfolding CheckCall
+check_one plan d xs n z = answers_same (check_refusal plan d xs n z) (admissible plan (index_list d xs) n (map pos z))
 
 -- ---- map, spread, gather and point list: the lent places
 module _ {A : Type 0} (refusal : ℕ) (result before after : List A) (r : ℕ) (told : Answered refusal result before after r) where

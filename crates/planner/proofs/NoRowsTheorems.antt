@@ -19,10 +19,10 @@ use Rattle.rank1.specs.Refusal.{first_of, bad_plan, bad_map_plan, bad_modulus, b
 use Rattle.rank1.proofs.RefusalLaws.{first_of_none, first_of_none_append}
 use Rattle.rank1.proofs.ValidLaws.{plan_clear, map_plan_clear, modulus_clear, places_clear, rule_clear, pair_none}
 use Rattle.rank1.proofs.NoRows.{no_rows, no_rows_valid, no_rows-admissible, zero_vector, no_rows_gentlest, no_rows_smallest, no_rows-map, no_rows_sums, no_rows_terms}
-use Rattle.planner.specs.declared.Verdict.TheVariants as answer
-use Rattle.planner.specs.declared.Plan.{Plan}
-use Rattle.planner.specs.declared.Plan.TheVariants.{Found}
-use Rattle.planner.specs.Answer.{check_answer, RefusedOr, ResidueMapCall, SpreadCall, GatherCall, VectorSearch, SmallestSearch}
+use Rattle.std.specs.Prelude.{Bool, true}
+use Rattle.std.specs.Prelude.{Result, Ok}
+use Rattle.rank1.specs.declared.Refusal.{Refusal}
+use Rattle.planner.specs.Answer.{CheckCall, RefusedOr, ResidueMapCall, SpreadCall, GatherCall, VectorSearch, SmallestSearch}
 use Rattle.planner.proofs.CallTheorems.{check_yes, answered_writes}
 use Rattle.planner.proofs.SearchTheorems.{Same, search_vector_determined, search_smallest_determined}
 use Rattle.planner.proofs.refusals.HandedLaws.{gather_answers}
@@ -37,7 +37,7 @@ module _ (plan d n : ℕ) (plans : plan ≤ 4) (axes : (1 ≤ d) × (d ≤ 6)) (
   of_run P p = subst (λ (ks : List (List ℤ)). P (Admissible plan ks)) (sym (no_rows d)) p
 
   -- ---- the searches: n is the modulus, or the ceiling
-  module _ (before after : List ℕ) (r : Plan) (room : length before ≡ d) where
+  module _ (before after : List ℕ) (r : Result ℕ Refusal) (room : length before ≡ d) where
     -- none of 1 to 6 and 8 applies
     none : search_refusal plan d [] n (length before) ≡ 0
     unfolding search_refusal
@@ -52,18 +52,18 @@ module _ (plan d n : ℕ) (plans : plan ≤ 4) (axes : (1 ≤ d) × (d ≤ 6)) (
         )
 
     -- where none applies, the promise is what an answer says: that the zero vector was found with a modulus
-    zeros-found : (found : ℕ) {A : Type 0} → A → RefusedOr (search_refusal plan d [] n (length before)) before (zero_vector d) (Found found) A
-    zeros-found found {A} a = subst (λ (k : ℕ). RefusedOr k before (zero_vector d) (Found found) A) (sym none) a
+    zeros-found : (found : ℕ) {A : Type 0} → A → RefusedOr (search_refusal plan d [] n (length before)) before (zero_vector d) (Ok found) A
+    zeros-found found {A} a = subst (λ (k : ℕ). RefusedOr k before (zero_vector d) (Ok found) A) (sym none) a
 
-    pub vector_no_rows : VectorSearch plan d [] n before after r → Same r (Found n) after (zero_vector d)
+    pub vector_no_rows : VectorSearch plan d [] n before after r → Same r (Ok n) after (zero_vector d)
     vector_no_rows told =
-        search_vector_determined plan d [] n before after (zero_vector d) r (Found n) told
+        search_vector_determined plan d [] n before after (zero_vector d) r (Ok n) told
         (zeros-found n
         (refl, of_run (λ rule. Gentlest rule d n (zero_vector d)) (no_rows_gentlest plan d plans n modulus.low)))
 
-    pub smallest_no_rows : SmallestSearch plan d [] n before after r → Same r (Found 1) after (zero_vector d)
+    pub smallest_no_rows : SmallestSearch plan d [] n before after r → Same r (Ok 1) after (zero_vector d)
     smallest_no_rows told =
-        search_smallest_determined plan d [] n before after (zero_vector d) r (Found 1) told
+        search_smallest_determined plan d [] n before after (zero_vector d) r (Ok 1) told
         (zeros-found 1
         (of_run (λ rule. Smallest rule d n 1 (zero_vector d)) (no_rows_smallest plan d plans n modulus.low)))
 
@@ -82,8 +82,8 @@ module _ (plan d n : ℕ) (plans : plan ≤ 4) (axes : (1 ≤ d) × (d ≤ 6)) (
         (first_of_none (bad_plan plan) (list_conditions plan d [] ++ pair_conditions d n z)).1
         ((plan_clear plan).1 plans, (first_of_none_append (list_conditions plan d []) (pair_conditions d n z)).1 (listed, paired))
 
-    pub check_no_rows : check_answer plan d [] n z ≡ answer.Admissible
-    check_no_rows = (check_yes plan d [] n z (check_answer plan d [] n z) refl).1 (check_none, rule)
+    pub check_no_rows : (r : Result Bool Refusal) → CheckCall plan d [] n z r → r ≡ Ok true
+    check_no_rows r told = (check_yes plan d [] n z r told).1 (check_none, rule)
 
     -- ---- map, spread and gather
     module _ (mapped : plan ≢ 0) where

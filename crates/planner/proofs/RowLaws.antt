@@ -1,17 +1,15 @@
 -- Rows of a run of numbers that is written row by row: a row that is copied behind the first m rows is the next one (`row_joined`),
--- and what stands before it stays (`rows_stay`); and where a row ends.
+-- and what stands before it stays (`rows_stay`).
 use mathlib.Core.Path.{◌≡◌, sym, ◌∙◌, ap}
 use mathlib.Core.List.Memᴰ
 use mathlib.Core.List.{List, [], ◌∷◌, ◌++◌, append_assoc, Memᴰ}
-use Prim.Native.Nat.{ℕ, suc, ◌+◌, ◌-◌, ◌*◌, ◌<◌, ◌≤◌}
+use Prim.Native.Nat.{ℕ, ◌+◌, ◌-◌, ◌*◌, ◌<◌, ◌≤◌}
 use native.Mathlib.Numerals.{add-one}
-use native.Mathlib.Decide.{ℕ_discrete}
 use native.Mathlib.Omega.{arith}
-use lib.IntN.{ℤ, pos}
-use lib.ListN.{length, get_or, take, drop, length-drop, take-append-drop, get_or-append, get_or-eq_default}
-use lib.Seq.{length-take-le, take_all, take-append-le, drop-append-le, take_at, drop_at, get_or-take, get_or-drop, paste}
+use lib.IntN.{ℤ}
+use lib.ListN.{length, get_or, take, drop, length-drop, take-append-drop}
+use lib.Seq.{length-take-le, take_all, take-append-le, drop-append-le, take_at, drop_at, get_or-drop, paste}
 use Rattle.rank1.specs.Index.{rows_of}
-use Rattle.rank1.specs.Axes.{ZeroFrom}
 use Rattle.rank1.proofs.Distinct.{member_at}
 use Rattle.rank1.proofs.IndexLaws.{row_fits, rows-length, part_length, row_at_lem, rows_take, rows_snoc, rows_front}
 
@@ -66,21 +64,7 @@ row_joined d m xs h e l =
         ∙ take_at (take d h) rest d (length-take-le d h (omega arith))
         ∙ take_all d h (omega arith)
 
--- and what stands before it stays, also while it is copied
-pub paste_before : (xs : List ℤ) (a : ℕ) (h : List ℤ) (n i : ℕ) → i < a → a ≤ length xs → get_or (paste xs a h n) i (pos 0) ≡ get_or xs i (pos 0)
-paste_before xs a h n i l f =
-    ap (λ (zs : List ℤ). get_or zs i (pos 0)) (append_assoc (take a xs) (take n h) (drop (a + n) xs))
-    ∙ get_or-append (take a xs) (take n h ++ drop (a + n) xs) (pos 0) i (omega (arith, length-take-le a xs f))
-    ∙ get_or-take a xs i (pos 0) l
-
 -- ---- rows by their numbers
--- component j of row i
-pub row-component : (d m i j : ℕ) (xs : List ℤ) → i < m → j < d → get_or (get_or (rows_of d m xs) i []) j (pos 0) ≡ get_or xs (i * d + j) (pos 0)
-row-component d m i j xs l h =
-    ap (λ (k : List ℤ). get_or k j (pos 0)) (row_at_lem d m xs i l)
-    ∙ get_or-take d (drop (i * d) xs) j (pos 0) h
-    ∙ get_or-drop (i * d) xs j (pos 0)
-
 -- row i has d components
 pub row-size : (d m i : ℕ) (xs : List ℤ) → i < m → m * d ≤ length xs → length (get_or (rows_of d m xs) i []) ≡ d
 row-size d m i xs l h = ap length (row_at_lem d m xs i l) ∙ part_length d m xs i l h
@@ -121,16 +105,3 @@ row-behind d b m e xs l h =
   where
     split : e ≡ b + (e - b)
     split = omega arith
-
--- ---- where a row ends
--- past its components there is only 0
-pub zero_beyond : (h : List ℤ) (j : ℕ) → length h ≤ j → ZeroFrom j h
-zero_beyond h j l i m = get_or-eq_default h (pos 0) {n = i} (omega arith)
-
--- one axis less
-pub zero_less : (h : List ℤ) (j : ℕ) → 0 < j → get_or h j (pos 0) ≡ pos 0 → ZeroFrom (suc j) h → ZeroFrom (suc (j - 1)) h
-zero_less h j l e f i m = go (ℕ_discrete i j)
-  where
-    go : Dec (i ≡ j) → get_or h i (pos 0) ≡ pos 0
-    go (yes q) = ap (λ (k : ℕ). get_or h k (pos 0)) q ∙ e
-    go (no q) = f i (omega arith)

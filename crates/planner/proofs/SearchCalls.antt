@@ -1,13 +1,14 @@
 -- How the two searches come from one: where no condition of a search applies its arguments are valid, and the answer among the moduli
 -- from low to high is that of `search_vector` at low = high, and of `search_smallest` at low = 1.
-use mathlib.Core.Path.{◌≡◌, sym, ◌∙◌, ap, refl, subst}
+use mathlib.Core.Path.{◌≡◌, sym, ◌∙◌, refl, subst}
 use mathlib.Core.List.{List, [], ◌∷◌, ◌++◌}
 use Prim.Native.Nat.{ℕ, zero, suc, ◌≤◌}
 use native.Mathlib.Omega.{arith}
 use lib.IntN.{ℤ}
 use lib.ListN.{length}
-use Rattle.planner.specs.declared.Plan.{Plan}
-use Rattle.planner.specs.declared.Plan.TheVariants.{Found, Refused}
+use Rattle.std.specs.Prelude.{Result, Ok, Err}
+use Rattle.rank1.specs.declared.Refusal.{Refusal}
+use Rattle.rank1.specs.Named.{number, refused}
 use Rattle.rank1.specs.Index.{index_list}
 use Rattle.rank1.specs.Rule.{Rule, Admissible}
 use Rattle.rank1.specs.Search.{Gentlest, NoPlan}
@@ -15,6 +16,7 @@ use Rattle.rank1.specs.Valid.{ValidList, ValidModulus}
 use Rattle.rank1.specs.Refusal.{first_of, bad_plan, bad_modulus, bad_places, list_conditions, tally_refusal, search_refusal}
 use Rattle.rank1.proofs.RefusalLaws.{first_of_none, first_of_none_append}
 use Rattle.rank1.proofs.ValidLaws.{plan_clear, places_clear, valid_list, valid_modulus}
+use Rattle.rank1.proofs.NamedLaws.{number_some}
 use Rattle.refusal.proofs.InputLaws.{list_stops, list-passes}
 use Rattle.planner.specs.Answer.{RefusedOr, GentlestOrNone, SmallestOrNone, VectorSearch, SmallestSearch}
 use Rattle.planner.specs.Stage.{PlanBetween, SearchBetween}
@@ -22,28 +24,28 @@ use Rattle.planner.specs.Stage.{PlanBetween, SearchBetween}
 -- ---- the moduli from low to high
 module _ (rule : Rule) (d n : ℕ) (before after : List ℕ) where
   -- n alone
-  between_gentlest : (r : Plan) → PlanBetween rule d n n before after r → GentlestOrNone rule d n before after r
-  between_gentlest (Found m) p =
+  between_gentlest : (r : Result ℕ Refusal) → PlanBetween rule d n n before after r → GentlestOrNone rule d n before after r
+  between_gentlest (Ok m) p =
       let e : m ≡ n = omega (arith, p.0, p.1) in
       (e, subst (λ (i : ℕ). Gentlest rule d i after) e p.2)
-  between_gentlest (Refused k) p = (p.0, p.1, p.2 n (omega arith) (omega arith))
+  between_gentlest (Err k) p = (p.0, p.1, p.2 n (omega arith) (omega arith))
 
   -- those from 1 to the ceiling n
-  between_smallest : (r : Plan) → PlanBetween rule d 1 n before after r → SmallestOrNone rule d n before after r
+  between_smallest : (r : Result ℕ Refusal) → PlanBetween rule d 1 n before after r → SmallestOrNone rule d n before after r
   unfolding NoPlan
-  between_smallest (Found m) p = record { low = p.0; high = p.1; gentlest = p.2; smaller_fail = p.3 }
-  between_smallest (Refused k) p = p
+  between_smallest (Ok m) p = record { low = p.0; high = p.1; gentlest = p.2; smaller_fail = p.3 }
+  between_smallest (Err k) p = p
 
 -- ---- refused, or answered
-refused_or : (before : List ℕ) (A : Type 0) (refusal k : ℕ) → k ≡ refusal → (k ≡ 0 → ⊥) → RefusedOr refusal before before (Refused k) A
-refused_or before A zero k e n = absurd (n e)
-refused_or before A (suc i) k e n = (ap Refused e, refl)
+refused_or : (before : List ℕ) (A : Type 0) (refusal : ℕ) (k : Refusal) (r : Result ℕ Refusal) → refused r ≡ number k → number k ≡ refusal → RefusedOr refusal before before r A
+refused_or before A zero k r e f = absurd (omega (arith, number_some k, f))
+refused_or before A (suc i) k r e f = (e ∙ f, refl)
 
-answered_or : (before after : List ℕ) (r : Plan) (A : Type 0) (refusal : ℕ) → refusal ≡ 0 → A → RefusedOr refusal before after r A
+answered_or : (before after : List ℕ) (r : Result ℕ Refusal) (A : Type 0) (refusal : ℕ) → refusal ≡ 0 → A → RefusedOr refusal before after r A
 answered_or before after r A zero e a = a
 answered_or before after r A (suc i) e a = absurd (omega arith)
 
-refused_map : (before after : List ℕ) (r : Plan) (refusal : ℕ) {A B : Type 0} → (A → B) → RefusedOr refusal before after r A → RefusedOr refusal before after r B
+refused_map : (before after : List ℕ) (r : Result ℕ Refusal) (refusal : ℕ) {A B : Type 0} → (A → B) → RefusedOr refusal before after r A → RefusedOr refusal before after r B
 refused_map before after r zero f a = f a
 refused_map before after r (suc i) f a = a
 
@@ -82,23 +84,23 @@ module _ (plan d : ℕ) (xs : List ℤ) (n places : ℕ) where
   unfolding search_refusal tally_refusal
   refused_range k none e = list-passes 0 (bad_plan plan ∷ list_conditions plan d xs) (sym none) k range refl e
 
--- ---- the moduli from low to high, behind the conditions: k is the number that these give
-module _ (plan d : ℕ) (xs : List ℤ) (low high : ℕ) (before : List ℕ) (k : ℕ) (told : k ≡ search_refusal plan d xs high (length before)) where
+-- ---- the moduli from low to high, behind the conditions
+module _ (plan d : ℕ) (xs : List ℤ) (low high : ℕ) (before : List ℕ) where
   -- one applies
-  pub between_refused : (k ≡ 0 → ⊥) → SearchBetween plan d xs low high before before (Refused k)
-  between_refused = refused_or before (PlanBetween (Admissible plan (index_list d xs)) d low high before before (Refused k)) (search_refusal plan d xs high (length before)) k told
+  pub between_refused : (k : Refusal) (r : Result ℕ Refusal) → refused r ≡ number k → number k ≡ search_refusal plan d xs high (length before) → SearchBetween plan d xs low high before before r
+  between_refused k r = refused_or before (PlanBetween (Admissible plan (index_list d xs)) d low high before before r) (search_refusal plan d xs high (length before)) k r
 
   -- none applies: the arguments are valid, and the search answers
-  module _ (none : k ≡ 0) where
+  module _ (none : search_refusal plan d xs high (length before) ≡ 0) where
     pub between_valid : ValidSearch plan d xs high (length before)
-    between_valid = valid_search plan d xs high (length before) (sym told ∙ none)
+    between_valid = valid_search plan d xs high (length before) none
 
-    pub between_answered : (after : List ℕ) (r : Plan) → PlanBetween (Admissible plan (index_list d xs)) d low high before after r → SearchBetween plan d xs low high before after r
+    pub between_answered : (after : List ℕ) (r : Result ℕ Refusal) → PlanBetween (Admissible plan (index_list d xs)) d low high before after r → SearchBetween plan d xs low high before after r
     between_answered after r =
-        answered_or before after r (PlanBetween (Admissible plan (index_list d xs)) d low high before after r) (search_refusal plan d xs high (length before)) (sym told ∙ none)
+        answered_or before after r (PlanBetween (Admissible plan (index_list d xs)) d low high before after r) (search_refusal plan d xs high (length before)) none
 
 -- ---- the two calls
-module _ (plan d : ℕ) (xs : List ℤ) (n : ℕ) (before after : List ℕ) (r : Plan) where
+module _ (plan d : ℕ) (xs : List ℤ) (n : ℕ) (before after : List ℕ) (r : Result ℕ Refusal) where
   -- n alone
   pub vector_search : SearchBetween plan d xs n n before after r → VectorSearch plan d xs n before after r
   vector_search = refused_map before after r (search_refusal plan d xs n (length before)) (between_gentlest (Admissible plan (index_list d xs)) d n before after r)

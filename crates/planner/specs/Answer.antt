@@ -1,12 +1,11 @@
 -- What the public calls answer, in the terms of document 01, and what a lent place holds afterwards. The promise of each call has one
--- name, with the call's arguments: `check_answer`, `ResidueMapCall`, `SpreadCall`, `GatherCall`, `PointListCall`, `VectorSearch`,
--- `SmallestSearch`, `GentlerCall`.
-use Rattle.std.specs.Prelude.{◌≡◌, Bool, true, false, List, map, ℕ, zero, suc, ℤ, pos, length}
+-- name, with the call's arguments: `CheckCall`, `ResidueMapCall`, `SpreadCall`, `GatherCall`, `PointListCall`, `VectorSearch`,
+-- `SmallestSearch`, `GentlerCall`. What a call answers is a result or a refusal; `refused` (rank1, Named) is the number, 0 for none.
+use Rattle.std.specs.Prelude.{◌≡◌, Bool, true, List, map, ℕ, zero, suc, ℤ, pos, length, Result, Ok, Err}
 use Rattle.std.specs.Borrow.{Bor}
-use Rattle.planner.specs.declared.Verdict.{Verdict}
-use Rattle.planner.specs.declared.Verdict.TheVariants as verdicts
-use Rattle.planner.specs.declared.Plan.{Plan}
-use Rattle.planner.specs.declared.Plan.TheVariants as found
+use Rattle.rank1.specs.declared.Refusal.{Refusal}
+use Rattle.rank1.specs.declared.Refusal.TheVariants as refusals
+use Rattle.rank1.specs.Named.{refused, Answers}
 use Rattle.rank1.specs.Tests.{every}
 use Rattle.rank1.specs.Index.{index_list}
 use Rattle.rank1.specs.Rule.{Rule, Admissible}
@@ -18,15 +17,9 @@ use Rattle.rank1.specs.Winner.{LeftWins}
 use Rattle.rank1.specs.Refusal.{check_refusal, map_refusal, spread_refusal, gather_refusal, point_refusal, search_refusal}
 
 -- ---- the check
--- its answer from the number of the refusal (0 for none) and whether the pair is admissible
-abbrev pub verdict : ℕ → Bool → Verdict
-verdict zero true = verdicts.Admissible
-verdict zero false = verdicts.Inadmissible
-verdict (suc k) b = verdicts.Refused (suc k)
-
--- what the check answers
-unfoldable pub check_answer : ℕ → ℕ → List ℤ → ℕ → List ℕ → Verdict
-check_answer plan d xs n z = verdict (check_refusal plan d xs n z) (admissible plan (index_list d xs) n (map pos z))
+-- whether the pair is admissible, or the refusal
+unfoldable pub CheckCall : ℕ → ℕ → List ℤ → ℕ → List ℕ → Result Bool Refusal → Type 0
+CheckCall plan d xs n z answer = Answers (check_refusal plan d xs n z) (admissible plan (index_list d xs) n (map pos z)) answer
 
 -- ---- calls that answer with the number of the refusal, 0 for none
 -- what a lent place holds after a call: the result, or where the call was refused what it held before
@@ -59,34 +52,29 @@ abbrev pub PointListCall : ℕ → ℕ → ℕ → List ℕ → List ℕ → Lis
 PointListCall plan d n z before after answer =
     Answered (point_refusal plan d n z (length before)) (point_list plan n z) before after answer
 
--- ---- the searches: an answer is a plan, with the vector in the lent places, or the number of a refusal, with them as before
--- the number of the refusal, 0 where there is a plan
-abbrev pub refusal_number : Plan → ℕ
-refusal_number (found.Found n) = 0
-refusal_number (found.Refused k) = k
-
+-- ---- the searches: an answer is the modulus of a plan, with the vector in the lent places, or a refusal, with them as before
 -- refused by the number k of a condition, or (0) answered
-abbrev pub RefusedOr : ℕ → List ℕ → List ℕ → Plan → Type 0 → Type 0
-RefusedOr zero before after answer Answers = Answers
-RefusedOr (suc k) before after answer Answers = (answer ≡ found.Refused (suc k)) × (after ≡ before)
+abbrev pub RefusedOr : ℕ → List ℕ → List ℕ → Result ℕ Refusal → Type 0 → Type 0
+RefusedOr zero before after answer Found = Found
+RefusedOr (suc k) before after answer Found = (refused answer ≡ suc k) × (after ≡ before)
 
 -- where conditions 1 to 8 do not apply: the gentlest vector at n, or 9 where n fails with every vector
-abbrev pub GentlestOrNone : Rule → ℕ → ℕ → List ℕ → List ℕ → Plan → Type 0
-GentlestOrNone rule d n before after (found.Found m) = (m ≡ n) × Gentlest rule d n after
-GentlestOrNone rule d n before after (found.Refused k) = (k ≡ 9) × (after ≡ before) × Hopeless rule d n
+abbrev pub GentlestOrNone : Rule → ℕ → ℕ → List ℕ → List ℕ → Result ℕ Refusal → Type 0
+GentlestOrNone rule d n before after (Ok m) = (m ≡ n) × Gentlest rule d n after
+GentlestOrNone rule d n before after (Err refusal) = (refusal ≡ refusals.NoPlan) × (after ≡ before) × Hopeless rule d n
 
 -- where conditions 1 to 8 do not apply: the smallest plan up to the ceiling, or 9 where there is none
-abbrev pub SmallestOrNone : Rule → ℕ → ℕ → List ℕ → List ℕ → Plan → Type 0
-SmallestOrNone rule d ceiling before after (found.Found n) = Smallest rule d ceiling n after
-SmallestOrNone rule d ceiling before after (found.Refused k) = (k ≡ 9) × (after ≡ before) × NoPlan rule d ceiling
+abbrev pub SmallestOrNone : Rule → ℕ → ℕ → List ℕ → List ℕ → Result ℕ Refusal → Type 0
+SmallestOrNone rule d ceiling before after (Ok n) = Smallest rule d ceiling n after
+SmallestOrNone rule d ceiling before after (Err refusal) = (refusal ≡ refusals.NoPlan) × (after ≡ before) × NoPlan rule d ceiling
 
 -- the vector search at n
-abbrev pub VectorSearch : ℕ → ℕ → List ℤ → ℕ → List ℕ → List ℕ → Plan → Type 0
+abbrev pub VectorSearch : ℕ → ℕ → List ℤ → ℕ → List ℕ → List ℕ → Result ℕ Refusal → Type 0
 VectorSearch plan d xs n before after answer =
     RefusedOr (search_refusal plan d xs n (length before)) before after answer (GentlestOrNone (Admissible plan (index_list d xs)) d n before after answer)
 
 -- the smallest plan up to the ceiling
-abbrev pub SmallestSearch : ℕ → ℕ → List ℤ → ℕ → List ℕ → List ℕ → Plan → Type 0
+abbrev pub SmallestSearch : ℕ → ℕ → List ℤ → ℕ → List ℕ → List ℕ → Result ℕ Refusal → Type 0
 SmallestSearch plan d xs ceiling before after answer =
     RefusedOr (search_refusal plan d xs ceiling (length before)) before after answer (SmallestOrNone (Admissible plan (index_list d xs)) d ceiling before after answer)
 

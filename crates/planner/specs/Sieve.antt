@@ -4,6 +4,8 @@
 use Rattle.std.specs.Prelude.{◌≡◌, ◌⊎◌, ◌≢◌, List, ℕ, suc, ◌+◌, ◌*◌, ◌%◌, ◌<◌, ◌≤◌, ℤ, pos, nat_abs, length, get_or, drop}
 use Rattle.rank1.specs.Valid.{ValidModulus}
 use Rattle.planner.specs.Inner.{place, Covered}
+use Rattle.planner.specs.declared.tables.ListTables.{ListTables}
+use Rattle.planner.specs.declared.tables.ModulusTables.{ModulusTables}
 use Rattle.planner.specs.Runs.{Bounds}
 use Rattle.planner.specs.Sizes.{axes, largest_modulus, largest_size, places, product_room, room, lasts, solution_room}
 
@@ -47,27 +49,23 @@ pub record TableAt (n t start step : ℕ) (solutions : List ℕ) : Type 0 where
   pub right : SolutionsSet n t step (drop start solutions)
 
 -- the tables of solutions of n: last component t has one where its step is not 0
-pub record SolutionsOf (n : ℕ) (solutions starts steps : List ℕ) : Type 0 where
-  pub wide : length solutions ≡ solution_room
-  pub starts_size : length starts ≡ lasts
-  pub steps-size : length steps ≡ lasts
-  pub tables : (t : ℕ) → t < lasts → get_or steps t 0 ≢ 0 → TableAt n t (get_or starts t 0) (get_or steps t 0) solutions
+pub record SolutionsOf (n : ℕ) (M : ModulusTables) : Type 0 where
+  pub wide : length M.solutions ≡ solution_room
+  pub starts_size : length M.starts ≡ lasts
+  pub steps-size : length M.steps ≡ lasts
+  pub tables : (t : ℕ) → t < lasts → get_or M.steps t 0 ≢ 0 → TableAt n t (get_or M.starts t 0) (get_or M.steps t 0) M.solutions
 
 -- what setting the tables asks: those of the last components up to `tail` on the first d axes
-pub record Tabulable (n d tail : ℕ) (bounds solutions starts steps : List ℕ) : Type 0 where
+pub record Tabulable (n d tail : ℕ) : Type 0 where
   pub modulus : ValidModulus n
   pub few_axes : d ≤ axes
   pub short : tail < lasts
-  pub tall : length bounds ≡ suc (axes * lasts)
-  pub wide : length solutions ≡ solution_room
-  pub starts_size : length starts ≡ lasts
-  pub steps-size : length steps ≡ lasts
 
--- the tables set so far stand before place `most`, which is one too many where there was no room for another
-pub record TablesTo (n most : ℕ) (solutions starts steps : List ℕ) : Type 0 where
-  pub solved : SolutionsOf n solutions starts steps
-  pub high : most ≤ suc solution_room
-  pub before : (t : ℕ) → t < lasts → get_or steps t 0 ≢ 0 → get_or starts t 0 + n ≤ most
+-- the tables set so far stand before place `most`
+pub record TablesTo (n most : ℕ) (M : ModulusTables) : Type 0 where
+  pub solved : SolutionsOf n M
+  pub high : most ≤ solution_room
+  pub before : (t : ℕ) → t < lasts → get_or M.steps t 0 ≢ 0 → get_or M.starts t 0 + n ≤ most
 
 -- ---- one run: the sums of its differences up to the axis before last, their components on that axis, and its products
 module _ (n : ℕ) (sums : List ℕ) (components : List ℤ) (products : List ℕ) where
@@ -146,21 +144,21 @@ pub record RunStart (bounds : List ℕ) (j t start : ℕ) : Type 0 where
   pub is : start ≡ j * room + get_or bounds (suc j * lasts + t) 0
   pub inside : start ≤ axes * room
 
-module _ (n j : ℕ) (components : List ℤ) (bounds products sums : List ℕ) where
+module _ (n j : ℕ) (T : ListTables) (products sums : List ℕ) where
   -- what it asks
-  pub record Sievable (solutions starts steps : List ℕ) : Type 0 where
-    pub bounded : Bounds bounds
-    pub solved : SolutionsOf n solutions starts steps
-    pub readable : Readable n j components products sums (get_or bounds (suc j * lasts) 0) (get_or bounds (suc (suc j) * lasts) 0)
+  pub record Sievable (M : ModulusTables) : Type 0 where
+    pub bounded : Bounds T.bounds
+    pub solved : SolutionsOf n M
+    pub readable : Readable n j T.components products sums (get_or T.bounds (suc j * lasts) 0) (get_or T.bounds (suc (suc j) * lasts) 0)
 
   -- v is forbidden by a difference that ends there
   pub record Forbidden (v : ℕ) : Type 0 where
     pub last : ℕ
     pub which : ℕ
     pub small : last < lasts
-    pub from : get_or bounds (suc j * lasts + last) 0 ≤ which
-    pub to : which < get_or bounds (suc (suc j * lasts + last)) 0
-    pub solved : (part_at n j components products sums which + last * v) % n ≡ 0
+    pub from : get_or T.bounds (suc j * lasts + last) 0 ≤ which
+    pub to : which < get_or T.bounds (suc (suc j * lasts + last)) 0
+    pub solved : (part_at n j T.components products sums which + last * v) % n ≡ 0
 
   -- among the marks of one axis each was there before or is forbidden
   pub record Barred (old new : List ℕ) : Type 0 where

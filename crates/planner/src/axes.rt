@@ -1,14 +1,14 @@
 // The pairs of axes that can change places: the list stays itself where two of its axes do.
 
-ghost use Rattle.std.specs.Prelude.{◌≡◌, true, ℕ, ◌*◌, ◌≤◌, ◌<◌, length, get_or};
+ghost use Rattle.std.specs.Prelude.{◌≡◌, true, false, ℕ, ◌*◌, ◌≤◌, ◌<◌, length, get_or};
 ghost use mathlib.Core.List.{Memᴰ};
-ghost use Rattle.rank1.specs.Index.{index_list};
 ghost use Rattle.rank1.specs.Axes.{swap, Interchangeable};
 ghost use Rattle.planner.specs.Sizes.{axes};
 ghost use Rattle.planner.specs.Inner.{WholeRows};
+ghost use Rattle.planner.specs.Lists.{rows_in};
 ghost use Rattle.planner.specs.Exchange.{other_axis, Swaps};
 
-use crate::products::row_at;
+use crate::list::Rows;
 use crate::sizes::AXES;
 
 // The axis whose component stands at axis a where axes i and j have changed places.
@@ -27,8 +27,8 @@ fn swapped_row_equal(row: &[i16], other: &[i16], i: usize, j: usize) -> bool
     requires i_in_bounds { (i < length other.now) × (j < length other.now) }
     ensures { result ≡ true → row.now ≡ swap i j other.now }
 {
-    for a in 0..row.len() {
-        if row[a] != other[other_axis(a, i, j)] {
+    for (a, x) in row.iter().enumerate() {
+        if *x != other[other_axis(a, i, j)] {
             return false;
         }
     }
@@ -36,13 +36,13 @@ fn swapped_row_equal(row: &[i16], other: &[i16], i: usize, j: usize) -> bool
 }
 
 // Whether a row with its components i and j exchanged is one of the rows.
-fn stands_swapped(d: usize, rows: &[i16], row: &[i16], i: usize, j: usize) -> bool
-    requires whole_rows { WholeRows d rows.now × (length row.now ≡ d) }
-    requires i_lt_d { (i < d) × (j < d) }
-    ensures { result ≡ true → Memᴰ (swap i j row.now) (index_list d rows.now) }
+fn stands_swapped(rows: &Rows, row: &[i16], i: usize, j: usize) -> bool
+    requires whole_rows { WholeRows rows.now.d rows.now.numbers.now × (length row.now ≡ rows.now.d) }
+    requires i_lt_d { (i < rows.now.d) × (j < rows.now.d) }
+    ensures { result ≡ true → Memᴰ (swap i j row.now) (rows_in rows.now) }
 {
-    for t in 0..rows.len() / d {
-        if swapped_row_equal(row_at(rows, t, d), row, i, j) {
+    for t in 0..rows.count() {
+        if swapped_row_equal(rows.row(t), row, i, j) {
             return true;
         }
     }
@@ -50,13 +50,13 @@ fn stands_swapped(d: usize, rows: &[i16], row: &[i16], i: usize, j: usize) -> bo
 }
 
 // Whether the list stays itself when axes i and j change places.
-fn axes_interchange(d: usize, rows: &[i16], i: usize, j: usize) -> bool
-    requires whole_rows { WholeRows d rows.now }
-    requires i_lt_d { (i < d) × (j < d) }
-    ensures { result ≡ true → Interchangeable i j (index_list d rows.now) }
+fn axes_interchange(rows: &Rows, i: usize, j: usize) -> bool
+    requires whole_rows { WholeRows rows.now.d rows.now.numbers.now }
+    requires i_lt_d { (i < rows.now.d) × (j < rows.now.d) }
+    ensures { result ≡ true → Interchangeable i j (rows_in rows.now) }
 {
-    for t in 0..rows.len() / d {
-        if !stands_swapped(d, rows, row_at(rows, t, d), i, j) {
+    for t in 0..rows.count() {
+        if !stands_swapped(rows, rows.row(t), i, j) {
             return false;
         }
     }
@@ -64,23 +64,24 @@ fn axes_interchange(d: usize, rows: &[i16], i: usize, j: usize) -> bool
 }
 
 // Marks the axes before j with which axis j can change places.
-fn set_swaps_of(d: usize, rows: &[i16], j: usize, swaps: &mut [u8])
-    requires whole_rows { WholeRows d rows.now × Swaps d (index_list d rows.now) swaps.old }
-    requires j_lt_d { (j < d) × (d ≤ axes) }
-    ensures { Swaps d (index_list d rows.now) swaps.new }
+fn set_swaps_of(rows: &Rows, j: usize, swaps: &mut [bool])
+    requires whole_rows { WholeRows rows.now.d rows.now.numbers.now × Swaps rows.now.d (rows_in rows.now) swaps.old }
+    requires j_lt_d { (j < rows.now.d) × (rows.now.d ≤ axes) }
+    ensures { Swaps rows.now.d (rows_in rows.now) swaps.new }
 {
+    // kept: i is an axis that is asked about, and the mark of the pair has its place by both axes; no slice is passed over.
     for i in 0..j {
-        swaps[i * AXES + j] = axes_interchange(d, rows, i, j) as u8;
+        swaps[i * AXES + j] = axes_interchange(rows, i, j);
     }
 }
 
 // Marks the pairs of axes that can change places.
-pub(crate) fn set_swaps(d: usize, rows: &[i16], swaps: &mut [u8])
-    requires whole_rows { WholeRows d rows.now × (d ≤ axes) }
-    requires swaps_len { (length swaps.old ≡ axes * axes) × ((i : ℕ) → get_or swaps.old i 0 ≡ 0) }
-    ensures { Swaps d (index_list d rows.now) swaps.new }
+pub(crate) fn set_swaps(rows: &Rows, swaps: &mut [bool])
+    requires whole_rows { WholeRows rows.now.d rows.now.numbers.now × (rows.now.d ≤ axes) }
+    requires swaps_len { (length swaps.old ≡ axes * axes) × ((i : ℕ) → get_or swaps.old i false ≡ false) }
+    ensures { Swaps rows.now.d (rows_in rows.now) swaps.new }
 {
-    for j in 1..d {
-        set_swaps_of(d, rows, j, swaps);
+    for j in 1..rows.d {
+        set_swaps_of(rows, j, swaps);
     }
 }

@@ -3,132 +3,57 @@
 // next, until it is full, since a difference that ends early rules out more vectors than one that ends late. The rows of a pair whose
 // difference ends at an axis are the same behind it, so it is enough there to change the signs up to that axis.
 
-ghost use Rattle.std.specs.Prelude.{false, ◌<◌};
-ghost use Rattle.rank1.specs.Index.{index_list};
-ghost use Rattle.planner.specs.Table.{Found, Fillable};
+ghost use Rattle.std.specs.Prelude.{◌<◌};
+ghost use Rattle.rank1.specs.Named.{plan_number};
+ghost use Rattle.planner.specs.Lists.{rows_in, ValidRows};
+ghost use Rattle.planner.specs.Table.{Found, Empty};
 
-use crate::differences::{Differences, pair_all};
-use crate::members::set_members;
-use crate::rule::clear;
-use crate::sizes::{AXES, SLOTS};
+use crate::list::Rows;
+use crate::members::Members;
+use crate::sizes::AXES;
+use crate::table::Differences;
 
 // All differences, in the order of the list; nothing where there is not room for all members.
-fn fill_at_once(
-    plan: u8,
-    d: usize,
-    rows: &[i16],
-    members: &mut [i16],
-    owners: &mut [u16],
-    found: &mut [i16],
-    slots: &mut [u16],
-) -> Differences
-    requires { Fillable plan d 0 rows.now members.old owners.old found.old slots.old }
-    ensures { Found plan d result.count result.whole (index_list d rows.now) found.new slots.new }
+fn fill_at_once(rows: &Rows, members: &mut Members, found: &mut Differences)
+    requires { ValidRows rows.now × Empty found.old }
+    ensures { Found (plan_number rows.now.plan) rows.now.d (rows_in rows.now) found.new }
 {
-    let gathered = set_members(plan, d, d, rows, members, owners);
-    if !gathered.whole {
-        return Differences {
-            count: 0,
-            whole: false,
-        };
+    members.gather(rows, rows.d);
+    found.whole = members.whole;
+    if members.whole {
+        found.pair_all(rows, AXES, members);
     }
-    let none = Differences {
-        count: 0,
-        whole: true,
-    };
-    let mut h = [0i16; AXES];
-    pair_all(
-        plan,
-        d,
-        AXES,
-        rows,
-        members,
-        owners,
-        gathered.count,
-        none,
-        &mut h[..d],
-        found,
-        slots,
-    )
 }
 
-// Adds the differences that end at an axis, and returns how many there are then.
-fn fill_axis(
-    plan: u8,
-    d: usize,
-    axis: usize,
-    rows: &[i16],
-    count: usize,
-    members: &mut [i16],
-    owners: &mut [u16],
-    found: &mut [i16],
-    slots: &mut [u16],
-) -> usize
-    requires { (axis < d) × Fillable plan d count rows.now members.old owners.old found.old slots.old }
-    ensures { Found plan d result false (index_list d rows.now) found.new slots.new }
+// Adds the differences that end at an axis.
+fn fill_axis(rows: &Rows, axis: usize, members: &mut Members, found: &mut Differences)
+    requires { ValidRows rows.now × (axis < rows.now.d) × Found (plan_number rows.now.plan) rows.now.d (rows_in rows.now) found.old }
+    ensures { Found (plan_number rows.now.plan) rows.now.d (rows_in rows.now) found.new }
 {
-    let gathered = set_members(plan, d, axis + 1, rows, members, owners);
-    let some = Differences {
-        count,
-        whole: false,
-    };
-    let mut h = [0i16; AXES];
-    let made = pair_all(
-        plan,
-        d,
-        axis,
-        rows,
-        members,
-        owners,
-        gathered.count,
-        some,
-        &mut h[..d],
-        found,
-        slots,
-    );
-    made.count
+    members.gather(rows, axis + 1);
+    found.pair_all(rows, axis, members);
 }
 
 // The differences axis by axis; not said to be all.
-fn fill_by_axes(
-    plan: u8,
-    d: usize,
-    rows: &[i16],
-    members: &mut [i16],
-    owners: &mut [u16],
-    found: &mut [i16],
-    slots: &mut [u16],
-) -> Differences
-    requires { Fillable plan d 0 rows.now members.old owners.old found.old slots.old }
-    ensures { Found plan d result.count result.whole (index_list d rows.now) found.new slots.new }
+fn fill_by_axes(rows: &Rows, members: &mut Members, found: &mut Differences)
+    requires { ValidRows rows.now × Empty found.old }
+    ensures { Found (plan_number rows.now.plan) rows.now.d (rows_in rows.now) found.new }
 {
-    let mut count = 0;
-    for axis in 0..d {
-        count = fill_axis(plan, d, axis, rows, count, members, owners, found, slots);
-    }
-    Differences {
-        count,
-        whole: false,
+    found.whole = false;
+    for axis in 0..rows.d {
+        fill_axis(rows, axis, members, found);
     }
 }
 
 // The table of the differences of a valid list: all of them where there is room, which `whole` says, else those that end early.
-pub(crate) fn fill_table(
-    plan: u8,
-    d: usize,
-    rows: &[i16],
-    members: &mut [i16],
-    owners: &mut [u16],
-    found: &mut [i16],
-    slots: &mut [u16],
-) -> Differences
-    requires { Fillable plan d 0 rows.now members.old owners.old found.old slots.old }
-    ensures { Found plan d result.count result.whole (index_list d rows.now) found.new slots.new }
+pub(crate) fn fill_table(rows: &Rows, members: &mut Members, found: &mut Differences)
+    requires { ValidRows rows.now × Empty found.old }
+    ensures { Found (plan_number rows.now.plan) rows.now.d (rows_in rows.now) found.new }
 {
-    let made = fill_at_once(plan, d, rows, members, owners, found, slots);
-    if made.whole {
-        return made;
+    fill_at_once(rows, members, found);
+    if !found.whole {
+        found.slots.fill(0);
+        found.count = 0;
+        fill_by_axes(rows, members, found);
     }
-    clear(slots, SLOTS);
-    fill_by_axes(plan, d, rows, members, owners, found, slots)
 }

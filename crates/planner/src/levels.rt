@@ -2,81 +2,73 @@
 // the search tests the rule on a level before it goes deeper.
 
 ghost use Rattle.std.specs.Prelude.{◌≡◌, ◌+◌, ◌*◌, ◌≤◌, ◌<◌, length, get_or};
-ghost use Rattle.rank1.specs.Valid.{ValidList};
 ghost use Rattle.planner.specs.Sizes.{level_room};
 ghost use Rattle.planner.specs.Inner.{Covered, WholeRows};
-ghost use Rattle.planner.specs.Levels.{zero_from, level_run, RowKept, Kept, LevelPlaces, Levels};
+ghost use Rattle.planner.specs.Lists.{ValidRows};
+ghost use Rattle.planner.specs.Levels.{zero_from, level_run, RowKept, Kept, Levels};
 
-use crate::products::row_at;
-use crate::rows::copy_row;
+use crate::list::Rows;
 use crate::sizes::LEVEL_ROOM;
+use crate::tables::ListTables;
 
 // Whether a row is 0 from axis j on.
 fn ends_by(row: &[i16], j: usize) -> bool
     requires { j ≤ length row.now }
     ensures { result ≡ zero_from j row.now }
 {
-    for i in j..row.len() {
-        if row[i] != 0 {
-            return false;
-        }
-    }
-    true
+    row.iter().skip(j).all(|x| *x == 0)
 }
 
-// Copies row i of a run behind the first `at` numbers of another where it is 0 from axis j on, and returns how many stand there then.
-fn keep_row(rows: &[i16], i: usize, d: usize, j: usize, out: &mut [i16], at: usize) -> usize
-    requires d_in_bounds { ((i + 1) * d ≤ length rows.now) × (at + d ≤ length out.old) }
-    requires j_le_d { j ≤ d }
-    ensures { RowKept d i j at rows.now out.old out.new result }
+// Copies row i of a list behind the first `at` numbers of a run where it is 0 from axis j on, and returns how many stand there then.
+// kept: out and at are a part of one array of the tables and how much of it is written; a struct of the two would be made and taken apart
+// in keep_ending alone.
+fn keep_row(rows: &Rows, i: usize, j: usize, out: &mut [i16], at: usize) -> usize
+    requires i_in_bounds { ((i + 1) * rows.now.d ≤ length rows.now.numbers.now) × (at + rows.now.d ≤ length out.old) }
+    requires j_le_d { j ≤ rows.now.d }
+    ensures { RowKept rows.now.d i j at rows.now.numbers.now out.old out.new result }
 {
-    let row = row_at(rows, i, d);
+    let row = rows.row(i);
     if !ends_by(row, j) {
         return at;
     }
-    copy_row(row, out, at);
-    at + d
+    out[at..at + rows.d].copy_from_slice(row);
+    at + rows.d
 }
 
 // Writes the rows that are 0 from axis j on to the front of out, in their order, and returns how many numbers they are.
-fn keep_ending(d: usize, rows: &[i16], j: usize, out: &mut [i16]) -> usize
-    requires whole_rows { WholeRows d rows.now }
-    requires j_le_d { (j ≤ d) × (length rows.now ≤ length out.old) }
-    ensures { Kept d j rows.now out.old out.new result }
+fn keep_ending(rows: &Rows, j: usize, out: &mut [i16]) -> usize
+    requires whole_rows { WholeRows rows.now.d rows.now.numbers.now }
+    requires j_le_d { (j ≤ rows.now.d) × (length rows.now.numbers.now ≤ length out.old) }
+    ensures { Kept rows.now.d j rows.now.numbers.now out.old out.new result }
 {
     let mut at = 0;
-    for i in 0..rows.len() / d {
-        at = keep_row(rows, i, d, j, out, at);
+    for i in 0..rows.count() {
+        at = keep_row(rows, i, j, out, at);
     }
     at
 }
 
 // The levels of a list, no component larger than top.
-pub(crate) fn set_levels(
-    plan: u8,
-    d: usize,
-    rows: &[i16],
-    top: usize,
-    levels: &mut [i16],
-    sizes: &mut [usize],
-)
-    requires valid_list { ValidList plan d rows.now × Covered top rows.now }
-    requires level_places { LevelPlaces top levels.old sizes.old }
-    ensures { Levels d top rows.now levels.new sizes.new }
+pub(crate) fn set_levels(rows: &Rows, top: usize, list: &mut ListTables)
+    requires valid_list { ValidRows rows.now × Covered top rows.now.numbers.now }
+    requires level_places { Covered top list.old.levels }
+    ensures made { Levels rows.now.d top rows.now.numbers.now list.new.levels list.new.sizes }
+    ensures only { list.new ≡ record list.old { levels = list.new.levels; sizes = list.new.sizes } }
 {
-    for j in 0..d + 1 {
+    // kept: j is an axis, whose rows and whose size stand in two arrays, and a chain over both is no plainer.
+    for j in 0..rows.d + 1 {
         let a = j * LEVEL_ROOM;
         let e = a + LEVEL_ROOM;
-        sizes[j] = keep_ending(d, rows, j, &mut levels[a..e]);
+        list.sizes[j] = keep_ending(rows, j, &mut list.levels[a..e]);
     }
 }
 
 // The rows of a level.
-pub(crate) fn level_at<'a>(j: usize, levels: &'a [i16], sizes: &[usize]) -> &'a [i16]
-    requires { (j < length sizes.now) × (j * level_room + get_or sizes.now j 0 ≤ length levels.now) }
-    ensures { result.now ≡ level_run levels.now sizes.now j }
+pub(crate) fn level_at(j: usize, list: &ListTables) -> &[i16]
+    requires { (j < length list.now.sizes) × (j * level_room + get_or list.now.sizes j 0 ≤ length list.now.levels) }
+    ensures { result.now ≡ level_run list.now.levels list.now.sizes j }
 {
     let a = j * LEVEL_ROOM;
-    let e = a + sizes[j];
-    &levels[a..e]
+    let e = a + list.sizes[j];
+    &list.levels[a..e]
 }

@@ -1,6 +1,7 @@
 // The planner's calls: check, residue map, spread, gather, point list and the two searches (document 01), and the gentler of two vectors
 // (document 02, f). Every public call takes any arguments, refuses wrong ones by the numbers of document 01's table, and then leaves
 // what it was lent as it was.
+// kept: the public calls take (plan, d, rows, n, z) one by one and the plan as a number, since C passes them so, and any number may be passed.
 
 #![tactic(auto)]
 
@@ -8,7 +9,9 @@ mod axes;
 mod differences;
 mod fill;
 mod flips;
+mod lattice;
 mod levels;
+mod list;
 mod listing;
 mod members;
 mod mirrors;
@@ -25,54 +28,46 @@ mod sieve;
 mod sizes;
 mod sums;
 mod table;
+mod tables;
 mod tent;
 mod vectors;
-mod widths;
 
 ghost use Rattle.std.specs.Prelude.{◌≡◌, ◌≤◌};
+ghost use Rattle.rank1.specs.Named.{refused};
 ghost use Rattle.rank1.specs.Tests.{Decides};
 ghost use Rattle.rank1.specs.Winner.{LeftWins};
-ghost use Rattle.planner.specs.Answer.{check_answer, ResidueMapCall, SpreadCall, GatherCall, PointListCall, refusal_number, VectorSearch, SmallestSearch, GentlerCall};
-ghost use Rattle.planner.specs.Stage.{Tallied, SearchBetween};
+ghost use Rattle.planner.specs.Answer.{CheckCall, ResidueMapCall, SpreadCall, GatherCall, PointListCall, VectorSearch, SmallestSearch, GentlerCall};
+ghost use Rattle.planner.specs.Stage.{SearchBetween};
 
+use crate::lattice::Lattice;
+use crate::list::{Rows, plan_of};
 use crate::sizes::PRODUCT_ROOM;
-use rank1::Tally;
-
-// What the check answers.
-#[derive(Clone, Copy)]
-pub enum Verdict {
-    Admissible,
-    Inadmissible,
-    Refused(u8),
-}
+use rank1::Refusal;
 
 // Whether the pair n, z meets the rule of the plan for the rows.
-pub fn check(plan: u8, d: usize, rows: &[i16], n: u16, z: &[u16]) -> Verdict
-    ensures { result ≡ check_answer plan d rows.now n z.now }
+pub fn check(plan: u8, d: usize, rows: &[i16], n: u16, z: &[u16]) -> Result<bool, Refusal>
+    ensures { CheckCall plan d rows.now n z.now result }
 {
-    let refused = refusals::check_refusal(plan, d, rows, n, z);
-    if refused != 0 {
-        return Verdict::Refused(refused);
-    }
-    if rule::admits(plan, d, rows, n, z) {
-        Verdict::Admissible
-    } else {
-        Verdict::Inadmissible
-    }
+    let rows = refusals::check_refusal(plan, d, rows, n, z)?;
+    Ok(rule::admits(&rows, n, z))
 }
 
 // The map: for each row its residue and c.
-pub fn residue_map(plan: u8, d: usize, rows: &[i16], n: u16, z: &[u16], out: &mut [u16]) -> u8
-    ensures { ResidueMapCall plan d rows.now n z.now out.old out.new result }
+pub fn residue_map(
+    plan: u8,
+    d: usize,
+    rows: &[i16],
+    n: u16,
+    z: &[u16],
+    out: &mut [u16],
+) -> Result<(), Refusal>
+    ensures { ResidueMapCall plan d rows.now n z.now out.old out.new (refused result) }
 {
-    let map_refused = refusals::map_refusal(plan, d, rows, n, z, out.len());
-    if map_refused != 0 {
-        return map_refused;
-    }
+    let rows = refusals::map_refusal(plan, d, rows, n, z, out.len())?;
     let mut products = [0u16; PRODUCT_ROOM];
-    products::prepare_rows(plan, d, rows, n, z, &mut products);
-    sums::write_map(plan, d, rows, n, z, &products, out);
-    0
+    let lattice = Lattice::of(&rows, n, z, &mut products);
+    sums::write_map(&rows, &lattice, out);
+    Ok(())
 }
 
 // Spreading: the sum at each residue.
@@ -84,17 +79,14 @@ pub fn spread(
     z: &[u16],
     terms: &[i32],
     sums: &mut [i64],
-) -> u8
-    ensures { SpreadCall plan d rows.now n z.now terms.now sums.old sums.new result }
+) -> Result<(), Refusal>
+    ensures { SpreadCall plan d rows.now n z.now terms.now sums.old sums.new (refused result) }
 {
-    let spread_refused = refusals::spread_refusal(plan, d, rows, n, z, terms.len(), sums.len());
-    if spread_refused != 0 {
-        return spread_refused;
-    }
+    let rows = refusals::spread_refusal(plan, d, rows, n, z, terms.len(), sums.len())?;
     let mut products = [0u16; PRODUCT_ROOM];
-    products::prepare_rows(plan, d, rows, n, z, &mut products);
-    sums::write_sums(plan, d, rows, n, z, &products, terms, sums);
-    0
+    let lattice = Lattice::of(&rows, n, z, &mut products);
+    sums::write_sums(&rows, &lattice, terms, sums);
+    Ok(())
 }
 
 // Gathering: each row's term from the sum at its residue. All rows are tested before the first term is written.
@@ -106,88 +98,65 @@ pub fn gather(
     z: &[u16],
     sums: &[i64],
     terms: &mut [i32],
-) -> u8
-    ensures { GatherCall plan d rows.now n z.now sums.now terms.old terms.new result }
+) -> Result<(), Refusal>
+    ensures { GatherCall plan d rows.now n z.now sums.now terms.old terms.new (refused result) }
 {
-    let gather_refused = refusals::gather_refusal(plan, d, rows, n, z, sums, terms.len());
-    if gather_refused != 0 {
-        return gather_refused;
-    }
+    let rows = refusals::gather_refusal(plan, d, rows, n, z, sums, terms.len())?;
     let mut products = [0u16; PRODUCT_ROOM];
-    products::prepare_rows(plan, d, rows, n, z, &mut products);
-    sums::write_terms(plan, d, rows, n, z, &products, sums, terms);
-    0
+    let lattice = Lattice::of(&rows, n, z, &mut products);
+    sums::write_terms(&rows, &lattice, sums, terms);
+    Ok(())
 }
 
 // The point list: `line_count` lines of d numbers, one for each lens.
-pub fn point_list(plan: u8, d: usize, n: u16, z: &[u16], out: &mut [u16]) -> u8
-    ensures { PointListCall plan d n z.now out.old out.new result }
+pub fn point_list(plan: u8, d: usize, n: u16, z: &[u16], out: &mut [u16]) -> Result<(), Refusal>
+    ensures { PointListCall plan d n z.now out.old out.new (refused result) }
 {
-    let points_refused = refusals::point_refusal(plan, d, n, z, out.len());
-    if points_refused != 0 {
-        return points_refused;
-    }
-    points::write_points(plan, d, n, z, out);
-    0
+    refusals::point_refusal(plan, d, n, z, out.len())?;
+    points::write_points(plan_of(plan), d, n, z, out);
+    Ok(())
 }
 
-// What a search answers: a plan, whose vector then stands in the lent places, or a refusal.
-#[derive(Clone, Copy)]
-pub enum Plan {
-    Found(u16),
-    Refused(u8),
-}
-
-// The number of a search's refusal, 0 where it found a plan.
-pub fn refusal_of(answer: Plan) -> u8
-    ensures { result ≡ refusal_number answer }
-{
-    match answer {
-        Plan::Found(_) => 0,
-        Plan::Refused(number) => number,
-    }
-}
-
-// Both searches of a valid list, with its record: refused by 6 or 8, or the first plan among the moduli from low to high.
-fn search_counted(
+// kept: the arguments stand one by one until the list is counted; then they are `Rows`.
+// Both searches: the list is counted, or refused by 1 to 5; then 6 and 8 are left; and the moduli from low to high are run.
+fn search_between(
     plan: u8,
     d: usize,
     rows: &[i16],
-    tally: Tally,
     low: u16,
     high: u16,
     z: &mut [u16],
-) -> Plan
-    requires { Tallied plan d rows.now tally × (1 ≤ high → 1 ≤ low) }
-    ensures { SearchBetween plan d rows.now low high z.old z.new result }
-{
-    let refused = refusals::range_refusal(d, high, z.len());
-    if refused != 0 {
-        return Plan::Refused(refused);
-    }
-    moduli::first_plan(plan, d, rows, tally, low, high, z)
-}
-
-// Both searches: the list is counted, or refused by 1 to 5, and the moduli from low to high are run.
-fn search_between(plan: u8, d: usize, rows: &[i16], low: u16, high: u16, z: &mut [u16]) -> Plan
+) -> Result<u16, Refusal>
     requires { 1 ≤ high → 1 ≤ low }
     ensures { SearchBetween plan d rows.now low high z.old z.new result }
 {
-    match lists::tally_list(plan, d, rows) {
-        lists::Counted::Kept(tally) => search_counted(plan, d, rows, tally, low, high, z),
-        lists::Counted::Refused(refused) => Plan::Refused(refused),
-    }
+    let tally = lists::tally_list(plan, d, rows)?;
+    refusals::range_refusal(d, high, z.len())?;
+    let rows = Rows::given(plan, d, rows);
+    moduli::first_plan(&rows, tally, low, high, z)
 }
 
 // The gentlest admissible vector at n.
-pub fn search_vector(plan: u8, d: usize, rows: &[i16], n: u16, z: &mut [u16]) -> Plan
+pub fn search_vector(
+    plan: u8,
+    d: usize,
+    rows: &[i16],
+    n: u16,
+    z: &mut [u16],
+) -> Result<u16, Refusal>
     ensures { VectorSearch plan d rows.now n z.old z.new result }
 {
     search_between(plan, d, rows, n, n, z)
 }
 
 // The smallest plan: the smallest modulus up to the ceiling that has an admissible vector, and the gentlest one there.
-pub fn search_smallest(plan: u8, d: usize, rows: &[i16], ceiling: u16, z: &mut [u16]) -> Plan
+pub fn search_smallest(
+    plan: u8,
+    d: usize,
+    rows: &[i16],
+    ceiling: u16,
+    z: &mut [u16],
+) -> Result<u16, Refusal>
     ensures { SmallestSearch plan d rows.now ceiling z.old z.new result }
 {
     search_between(plan, d, rows, 1, ceiling, z)

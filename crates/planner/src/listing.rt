@@ -1,18 +1,23 @@
 // The differences of a list, made once: its members, the table of their differences, the axes whose sign can change, and the
 // differences in runs as the sieve reads them.
 
-ghost use Rattle.std.specs.Prelude.{◌≤◌};
-ghost use Rattle.planner.specs.Sizes.{largest_size};
+ghost use Rattle.std.specs.Prelude.{◌≡◌};
+ghost use Rattle.rank1.specs.Named.{plan_number};
 ghost use Rattle.planner.specs.Stage.{Differable, Differenced};
 
 use crate::fill::fill_table;
 use crate::flips::set_flips;
+use crate::list::Rows;
+use crate::members::Members;
 use crate::products::largest;
 use crate::runs::arrange;
 use crate::sizes::{AXES, MOST_MEMBERS, ROOM, SLOTS};
+use crate::table::Differences;
+use crate::tables::ListTables;
 
 // What the search of a list asks beside its tables: the largest size of a component of a row or of a difference, the largest last
 // component of a difference, and whether no difference was turned away.
+// kept: `whole` is no sign of whether there is a top or a tail, which are told either way, so an Option does not say it.
 #[derive(Clone, Copy)]
 pub(crate) struct Listing {
     pub(crate) top: usize,
@@ -20,44 +25,30 @@ pub(crate) struct Listing {
     pub(crate) whole: bool,
 }
 
-// The larger of two numbers.
-fn larger(a: usize, b: usize) -> usize
-    requires { (a ≤ largest_size) × (b ≤ largest_size) }
-    ensures { (a ≤ result) × (b ≤ result) × (result ≤ largest_size) }
-{
-    if a < b { b } else { a }
-}
-
 // Sets the differences of a valid list and the marks of the axes whose sign can change.
-pub(crate) fn set_differences(
-    plan: u8,
-    d: usize,
-    rows: &[i16],
-    flips: &mut [u8],
-    components: &mut [i16],
-    bounds: &mut [u16],
-) -> Listing
-    requires { Differable plan d rows.now flips.old components.old bounds.old }
-    ensures { Differenced plan d result.top result.tail rows.now flips.new components.new bounds.new }
+pub(crate) fn set_differences(rows: &Rows, list: &mut ListTables) -> Listing
+    requires { Differable rows.now list.old }
+    ensures made { Differenced (plan_number rows.now.plan) rows.now.d result.top result.tail rows.now.numbers.now list.new.flips list.new.components list.new.bounds }
+    ensures only { list.new ≡ record list.old { flips = list.new.flips; components = list.new.components; bounds = list.new.bounds } }
 {
-    let mut members = [0i16; MOST_MEMBERS * AXES];
-    let mut owners = [0u16; MOST_MEMBERS];
-    let mut found = [0i16; ROOM * AXES];
-    let mut slots = [0u16; SLOTS];
-    let made = fill_table(
-        plan,
-        d,
-        rows,
-        &mut members,
-        &mut owners,
-        &mut found,
-        &mut slots,
-    );
-    set_flips(plan, d, made, &found, &slots, flips);
-    let tail = arrange(d, made.count, &found, components, bounds);
+    let mut members = Members {
+        rows: [0; MOST_MEMBERS * AXES],
+        owners: [0; MOST_MEMBERS],
+        count: 0,
+        whole: true,
+    };
+    let mut found = Differences {
+        rows: [0; ROOM * AXES],
+        slots: [0; SLOTS],
+        count: 0,
+        whole: true,
+    };
+    fill_table(rows, &mut members, &mut found);
+    set_flips(rows, &found, &mut list.flips);
+    let tail = arrange(rows.d, &found, &mut list.components, &mut list.bounds);
     Listing {
-        top: larger(largest(rows), largest(&found)),
+        top: largest(rows.numbers).max(largest(&found.rows)),
         tail,
-        whole: made.whole,
+        whole: found.whole,
     }
 }

@@ -1,196 +1,124 @@
-// The members that pairs of rows are made of: for plans 2 to 4 all mirrors of each row, for plans 0 and 1 the row alone. A row's
+// The members that pairs of rows are made of: for plans A, B and C all mirrors of each row, for the other two the row alone. A row's
 // mirrors are made by doubling: axis by axis, where the row is not 0, what stands there of them is copied behind it with the other
 // sign. Signs are changed on the first `span` axes: on fewer than all, or where there is no room for all mirrors, those that are made
 // stay: what they tell is true, but not all that there is to tell.
 
-ghost use Rattle.std.specs.Prelude.{◌≡◌, ◌≢◌, true, [], ◌∷◌, ◌++◌, ◌+◌, ◌-◌, ◌*◌, ◌≤◌, ◌<◌, nat_abs, neg_ℤ, length, get_or};
-ghost use Rattle.rank1.specs.Index.{rows_of, row_count, index_list};
-ghost use Rattle.rank1.specs.Valid.{ValidList};
+ghost use Rattle.std.specs.Prelude.{◌≡◌, [], ◌+◌, ◌-◌, ◌≤◌, ◌<◌, length, get_or};
 ghost use Rattle.rank1.specs.Axes.{flip};
-ghost use Rattle.planner.specs.Sizes.{largest_component};
-ghost use Rattle.planner.specs.Members.{MemberRoom, Gathering, SmallRow, MembersStay, Doubles, Doubled, Mirroring};
+ghost use Rattle.rank1.specs.Index.{rows_of, row_count};
+ghost use Rattle.rank1.specs.Named.{plan_number};
+ghost use Rattle.planner.specs.Sizes.{axes, most_members};
+ghost use Rattle.planner.specs.Lists.{rows_in, ValidRows};
+ghost use Rattle.planner.specs.Members.{SmallRow, Pushed, Gathering, MembersStay, Doubles, Doubled, Mirroring};
 
-use crate::products::row_at;
-use crate::rows::copy_row;
-use crate::sizes::MOST_MEMBERS;
+use crate::flips::flip_row;
+use crate::list::Rows;
+use crate::rows::row_at;
+use crate::sizes::{AXES, MOST_MEMBERS};
+use rank1::Plan;
 
-// How many members there are, and whether these are all of them.
-#[derive(Clone, Copy)]
-pub(crate) struct Gathered {
+// The members that are made: `count` rows, one behind the other, beside each the number of the row of the list that it belongs to, its
+// owner; and whether these are all members.
+#[derive(Drop)]
+pub(crate) struct Members {
+    pub(crate) rows: [i16; MOST_MEMBERS * AXES],
+    pub(crate) owners: [u16; MOST_MEMBERS],
     pub(crate) count: usize,
     pub(crate) whole: bool,
 }
 
-// x with the other sign where j is the axis.
-fn turned(x: i16, j: usize, axis: usize) -> i16
-    requires { nat_abs x ≤ largest_component }
-    ensures { (j ≡ axis → result ≡ neg_ℤ x) × (j ≢ axis → result ≡ x) }
-{
-    if j == axis { -x } else { x }
-}
+impl Members {
+    // Adds a row behind the others, with its owner beside it.
+    fn push(&mut self, row: &[i16], owner: u16)
+        requires { (length row.now ≤ axes) × (self.old.count < most_members) }
+        ensures { Pushed (length row.now) row.now owner self.old self.new }
+    {
+        let at = self.count * row.len();
+        self.rows[at..at + row.len()].copy_from_slice(row);
+        self.owners[self.count] = owner;
+        self.count += 1;
+    }
 
-// Copies a row behind the first count members.
-fn push_row(d: usize, row: &[i16], count: usize, members: &mut [i16])
-    requires { (length row.now ≡ d) × ((count + 1) * d ≤ length members.old) }
-    ensures { rows_of d (count + 1) members.new ≡ rows_of d count members.old ++ (row.now ∷ []) }
-{
-    copy_row(row, members, count * d);
-}
+    // Adds member i with the other sign at the axis.
+    fn push_flipped(&mut self, d: usize, i: usize, axis: usize, owner: u16)
+        requires within { (d ≤ axes) × (axis < d) × (i < self.old.count) × (self.old.count < most_members) }
+        requires small_row { SmallRow (get_or (rows_of d self.old.count self.old.rows) i []) }
+        ensures { Pushed d (flip axis (get_or (rows_of d self.old.count self.old.rows) i [])) owner self.old self.new }
+    {
+        let mut places = [0i16; AXES];
+        let mirror = &mut places[..d];
+        flip_row(row_at(&self.rows, i, d), axis, mirror);
+        self.push(mirror, owner);
+    }
 
-// Writes member i with the other sign at the axis behind the first count members.
-fn push_flipped(d: usize, i: usize, axis: usize, count: usize, members: &mut [i16])
-    requires i_lt_count { (i < count) × ((count + 1) * d ≤ length members.old) }
-    requires small_row { SmallRow (get_or (rows_of d count members.old) i []) }
-    ensures { rows_of d (count + 1) members.new ≡ rows_of d count members.old ++ (flip axis (get_or (rows_of d count members.old) i []) ∷ []) }
-{
-    let from = i * d;
-    let to = count * d;
-    for j in 0..d {
-        members[to + j] = turned(members[from + j], j, axis);
+    // The members from number `from` on once more behind them, with the other sign at the axis.
+    fn double(&mut self, d: usize, from: usize, axis: usize, owner: u16)
+        requires { Doubles d from axis self.old }
+        ensures { Doubled d from (self.old.count - from) axis owner self.old self.new }
+    {
+        for i in from..self.count {
+            self.push_flipped(d, i, axis, owner);
+        }
     }
-}
 
-// The members from number `from` to before count once more behind them, with the other sign at the axis.
-fn double(
-    d: usize,
-    from: usize,
-    count: usize,
-    axis: usize,
-    owner: u16,
-    members: &mut [i16],
-    owners: &mut [u16],
-)
-    requires { Doubles d from count members.old owners.old }
-    ensures { Doubled d from count (count - from) axis owner members.old members.new owners.old owners.new }
-{
-    for i in 0..count - from {
-        push_flipped(d, from + i, axis, count + i, members);
-        owners[count + i] = owner;
+    // The mirrors of a row at one axis more, where there is room for them.
+    fn add_axis(&mut self, row: &[i16], axis: usize, from: usize, owner: u16)
+        requires { (axis < length row.now) × Mirroring (length row.now) axis from owner row.now self.old }
+        ensures mirroring { Mirroring (length row.now) (axis + 1) from owner row.now self.new }
+        ensures members_stay { MembersStay (length row.now) from self.old self.new }
+    {
+        if row[axis] == 0 {
+            return;
+        }
+        if MOST_MEMBERS < self.count + (self.count - from) {
+            self.whole = false;
+            return;
+        }
+        self.double(row.len(), from, axis, owner);
     }
-}
 
-// The mirrors of a row at one axis more, where there is room for them.
-fn add_axis(
-    d: usize,
-    row: &[i16],
-    axis: usize,
-    owner: u16,
-    from: usize,
-    g: Gathered,
-    members: &mut [i16],
-    owners: &mut [u16],
-) -> Gathered
-    requires { (axis < d) × Mirroring d axis from g.count owner row.now members.old owners.old g.whole }
-    ensures mirroring { Mirroring d (axis + 1) from result.count owner row.now members.new owners.new result.whole }
-    ensures members_stay { MembersStay d from members.old members.new owners.old owners.new }
-{
-    if row[axis] == 0 {
-        return g;
+    // The mirrors of a row, which stands as the last member, by the signs of the first `span` axes.
+    fn add_signs(&mut self, row: &[i16], span: usize, from: usize, owner: u16)
+        requires { (span ≤ length row.now) × Mirroring (length row.now) 0 from owner row.now self.old }
+        ensures mirroring { Mirroring (length row.now) (length row.now) from owner row.now self.new }
+        ensures members_stay { MembersStay (length row.now) from self.old self.new }
+    {
+        for axis in 0..span {
+            self.add_axis(row, axis, from, owner);
+        }
+        if span < row.len() {
+            self.whole = false;
+        }
     }
-    let count = g.count;
-    let end = count + (count - from);
-    if MOST_MEMBERS < end {
-        return Gathered {
-            count,
-            whole: false,
-        };
-    }
-    double(d, from, count, axis, owner, members, owners);
-    Gathered {
-        count: end,
-        whole: g.whole,
-    }
-}
 
-// The mirrors of a row, which stands as the last member, by the signs of the first `span` axes.
-fn add_signs(
-    d: usize,
-    span: usize,
-    row: &[i16],
-    owner: u16,
-    from: usize,
-    members: &mut [i16],
-    owners: &mut [u16],
-) -> Gathered
-    requires { (span ≤ d) × Mirroring d 0 from (from + 1) owner row.now members.old owners.old true }
-    ensures mirroring { Mirroring d d from result.count owner row.now members.new owners.new result.whole }
-    ensures members_stay { MembersStay d from members.old members.new owners.old owners.new }
-{
-    let mut g = Gathered {
-        count: from + 1,
-        whole: true,
-    };
-    for axis in 0..span {
-        g = add_axis(d, row, axis, owner, from, g, members, owners);
+    // The members of row i, behind those of the rows before it.
+    fn add_mirrors(&mut self, rows: &Rows, span: usize, i: usize)
+        requires valid_rows { ValidRows rows.now × (i < row_count rows.now.d rows.now.numbers.now) × (span ≤ rows.now.d) }
+        requires gathering { Gathering (plan_number rows.now.plan) rows.now.d (rows_of rows.now.d i rows.now.numbers.now) self.old }
+        ensures { Gathering (plan_number rows.now.plan) rows.now.d (rows_of rows.now.d (i + 1) rows.now.numbers.now) self.new }
+    {
+        let from = self.count;
+        if from == MOST_MEMBERS {
+            self.whole = false;
+            return;
+        }
+        let row = rows.row(i);
+        self.push(row, i as u16);
+        match rows.plan {
+            Plan::Integration | Plan::Fourier => {}
+            Plan::A | Plan::B | Plan::C => self.add_signs(row, span, from, i as u16),
+        }
     }
-    if span == d {
-        return g;
-    }
-    Gathered {
-        count: g.count,
-        whole: false,
-    }
-}
 
-// The members of row i, behind those of the rows before it.
-fn add_mirrors(
-    plan: u8,
-    d: usize,
-    span: usize,
-    rows: &[i16],
-    i: usize,
-    g: Gathered,
-    members: &mut [i16],
-    owners: &mut [u16],
-) -> Gathered
-    requires valid_list { ValidList plan d rows.now × (i < row_count d rows.now) × (span ≤ d) }
-    requires gathering { Gathering plan d g.count g.whole (rows_of d i rows.now) members.old owners.old }
-    ensures { Gathering plan d result.count result.whole (rows_of d (i + 1) rows.now) members.new owners.new }
-{
-    let from = g.count;
-    if from == MOST_MEMBERS {
-        return Gathered {
-            count: from,
-            whole: false,
-        };
+    // Gathers the members of a valid list anew, by the signs of the first `span` axes.
+    pub(crate) fn gather(&mut self, rows: &Rows, span: usize)
+        requires { ValidRows rows.now × (span ≤ rows.now.d) }
+        ensures { Gathering (plan_number rows.now.plan) rows.now.d (rows_in rows.now) self.new }
+    {
+        self.count = 0;
+        self.whole = true;
+        for i in 0..rows.count() {
+            self.add_mirrors(rows, span, i);
+        }
     }
-    let row = row_at(rows, i, d);
-    push_row(d, row, from, members);
-    owners[from] = i as u16;
-    if plan < 2 {
-        return Gathered {
-            count: from + 1,
-            whole: g.whole,
-        };
-    }
-    let added = add_signs(d, span, row, i as u16, from, members, owners);
-    if g.whole {
-        return added;
-    }
-    Gathered {
-        count: added.count,
-        whole: false,
-    }
-}
-
-// The members of a valid list, by the signs of the first `span` axes.
-pub(crate) fn set_members(
-    plan: u8,
-    d: usize,
-    span: usize,
-    rows: &[i16],
-    members: &mut [i16],
-    owners: &mut [u16],
-) -> Gathered
-    requires { ValidList plan d rows.now × (span ≤ d) × MemberRoom d members.old owners.old }
-    ensures { Gathering plan d result.count result.whole (index_list d rows.now) members.new owners.new }
-{
-    let mut g = Gathered {
-        count: 0,
-        whole: true,
-    };
-    for i in 0..rows.len() / d {
-        g = add_mirrors(plan, d, span, rows, i, g, members, owners);
-    }
-    g
 }

@@ -2,182 +2,122 @@
 // counting, so the tables of the list are made only where a modulus is left.
 
 ghost use Rattle.std.specs.Prelude.{◌≡◌, ◌≤◌, max, length};
-ghost use Rattle.rank1.specs.Index.{index_list};
-ghost use Rattle.rank1.specs.Rule.{Admissible};
+ghost use Rattle.rank1.specs.Named.{plan_number};
 ghost use Rattle.rank1.specs.Tally.{recount, least_modulus};
 ghost use Rattle.rank1.specs.Refusal.{least_refusal};
 ghost use Rattle.planner.specs.Sizes.{largest_modulus};
-ghost use Rattle.planner.specs.Stage.{list_tables, modulus_tables, work, rule_of, Tabled, Roomy, Ascended, PlanBetween, Searchable};
+ghost use Rattle.planner.specs.Lists.{rows_in};
+ghost use Rattle.planner.specs.Stage.{rule_of, rule_of_task, TabledTask, Roomy, Ascended, PlanBetween, Searchable};
 
-use crate::Plan;
 use crate::axes::set_swaps;
 use crate::levels::set_levels;
+use crate::list::Rows;
 use crate::listing::set_differences;
 use crate::rounds::{Task, gentlest_vector};
 use crate::sizes::{AXES, LARGEST_MODULUS, LASTS, LEVEL_ROOM, PRODUCT_ROOM, ROOM, SOLUTION_ROOM};
-use crate::vectors::copy;
-use lists::{Least, least_modulus};
-use rank1::Tally;
+use crate::tables::{ListTables, ModulusTables, Work};
+use lists::least_modulus;
+use rank1::{Plan, Refusal, Tally};
 
-// Runs the moduli from low to high: the first that does not fail, with its gentlest vector in `best`; 0 where all fail.
+// Runs the moduli from low to high: the first that does not fail, with its gentlest vector in `best`.
 fn first_modulus(
-    task: Task,
+    task: &Task,
     low: u16,
     high: u16,
-    rows: &[i16],
-    levels: &[i16],
-    sizes: &[usize],
-    swaps: &[u8],
-    flips: &[u8],
-    components: &[i16],
-    bounds: &[u16],
-    solutions: &mut [u16],
-    starts: &mut [usize],
-    steps: &mut [u16],
+    modulus: &mut ModulusTables,
     z: &mut [u16],
-    sums: &mut [u16],
-    products: &mut [u16],
-    struck: &mut [u8],
-    owners: &mut [u16],
+    work: &mut Work,
     best: &mut [u16],
-) -> u16
-    requires tabled { Tabled task.plan task.d task.top task.tail (list_tables rows.now levels.now sizes.now swaps.now flips.now components.now bounds.now) }
-    requires le_low { (1 ≤ low) × (high ≤ largest_modulus) × (length best.old ≡ task.d) × Roomy task.d (modulus_tables solutions.old starts.old steps.old) (work z.old sums.old products.old struck.old owners.old) }
-    ensures { Ascended (rule_of task.plan task.d (list_tables rows.now levels.now sizes.now swaps.now flips.now components.now bounds.now)) task.d low high best.new result }
+) -> Option<u16>
+    requires tabled { TabledTask task.now }
+    requires le_low { (1 ≤ low) × (high ≤ largest_modulus) × (length best.old ≡ task.now.rows.d) × Roomy task.now.rows.d z.old work.old }
+    ensures { Ascended (rule_of_task task.now) task.now.rows.d low high best.new result }
 {
-    let mut n = low;
-    while n <= high {
-        if gentlest_vector(
-            task, n, rows, levels, sizes, swaps, flips, components, bounds, solutions, starts,
-            steps, z, sums, products, struck, owners, best,
-        ) {
-            return n;
+    // kept: a turn writes the tables, the vector and the best one through lent places, so a closure for `find` is no plainer.
+    for n in low..=high {
+        if gentlest_vector(task, n, modulus, z, work, best) {
+            return Some(n);
         }
-        n += 1;
     }
-    0
+    None
 }
 
 // The same with tables of its own for the moduli and the work.
-fn run_moduli(
-    task: Task,
-    low: u16,
-    high: u16,
-    rows: &[i16],
-    levels: &[i16],
-    sizes: &[usize],
-    swaps: &[u8],
-    flips: &[u8],
-    components: &[i16],
-    bounds: &[u16],
-    best: &mut [u16],
-) -> u16
-    requires tabled { Tabled task.plan task.d task.top task.tail (list_tables rows.now levels.now sizes.now swaps.now flips.now components.now bounds.now) }
-    requires le_low { (1 ≤ low) × (high ≤ largest_modulus) × (length best.old ≡ task.d) }
-    ensures { Ascended (rule_of task.plan task.d (list_tables rows.now levels.now sizes.now swaps.now flips.now components.now bounds.now)) task.d low high best.new result }
+fn run_moduli(task: &Task, low: u16, high: u16, best: &mut [u16]) -> Option<u16>
+    requires tabled { TabledTask task.now }
+    requires le_low { (1 ≤ low) × (high ≤ largest_modulus) × (length best.old ≡ task.now.rows.d) }
+    ensures { Ascended (rule_of_task task.now) task.now.rows.d low high best.new result }
 {
-    let d = task.d;
-    let mut solutions = [0u16; SOLUTION_ROOM];
-    let mut starts = [0usize; LASTS];
-    let mut steps = [0u16; LASTS];
+    let mut modulus = ModulusTables {
+        solutions: [0; SOLUTION_ROOM],
+        starts: [0; LASTS],
+        steps: [0; LASTS],
+    };
+    let mut work = Work {
+        sums: [0; AXES * ROOM],
+        products: [0; PRODUCT_ROOM],
+        struck: [0; AXES * LARGEST_MODULUS + 1],
+        owners: [0; LARGEST_MODULUS],
+    };
     let mut z = [0u16; AXES];
-    let mut sums = [0u16; AXES * ROOM];
-    let mut products = [0u16; PRODUCT_ROOM];
-    let mut struck = [0u8; AXES * LARGEST_MODULUS + 1];
-    let mut owners = [0u16; LARGEST_MODULUS];
-    first_modulus(
-        task,
-        low,
-        high,
-        rows,
-        levels,
-        sizes,
-        swaps,
-        flips,
-        components,
-        bounds,
-        &mut solutions,
-        &mut starts,
-        &mut steps,
-        &mut z[..d],
-        &mut sums,
-        &mut products,
-        &mut struck,
-        &mut owners,
-        best,
-    )
+    let d = task.rows.d;
+    first_modulus(task, low, high, &mut modulus, &mut z[..d], &mut work, best)
 }
 
 // The first plan among the moduli from low to high for a valid list, whose tables are made here. The vector is built in an array of
 // its own, so that the lent places are written only where there is a plan.
-fn search_list(plan: u8, d: usize, rows: &[i16], low: u16, high: u16, z: &mut [u16]) -> Plan
-    requires { Searchable plan d rows.now low high z.old }
-    ensures { PlanBetween (Admissible plan (index_list d rows.now)) d low high z.old z.new result }
+fn search_list(rows: &Rows, low: u16, high: u16, z: &mut [u16]) -> Result<u16, Refusal>
+    requires { Searchable rows.now low high z.old }
+    ensures { PlanBetween (rule_of (plan_number rows.now.plan) rows.now.d rows.now.numbers.now) rows.now.d low high z.old z.new result }
 {
-    let mut levels = [0i16; (AXES + 1) * LEVEL_ROOM];
-    let mut sizes = [0usize; AXES + 1];
-    let mut swaps = [0u8; AXES * AXES];
-    let mut flips = [0u8; AXES];
-    let mut components = [0i16; AXES * ROOM];
-    let mut bounds = [0u16; AXES * LASTS + 1];
-    let mut x = [0u16; AXES];
-    let listing = set_differences(plan, d, rows, &mut flips, &mut components, &mut bounds);
-    set_levels(plan, d, rows, listing.top, &mut levels, &mut sizes);
-    set_swaps(d, rows, &mut swaps);
-    let task = Task {
-        plan,
-        d,
-        top: listing.top,
-        tail: listing.tail,
-        whole: listing.whole,
+    let mut list = ListTables {
+        levels: [0; (AXES + 1) * LEVEL_ROOM],
+        sizes: [0; AXES + 1],
+        swaps: [false; AXES * AXES],
+        flips: [false; AXES],
+        components: [0; AXES * ROOM],
+        bounds: [0; AXES * LASTS + 1],
     };
-    let n = run_moduli(
-        task,
-        low,
-        high,
-        rows,
-        &levels,
-        &sizes,
-        &swaps,
-        &flips,
-        &components,
-        &bounds,
-        &mut x[..d],
-    );
-    if n == 0 {
-        return Plan::Refused(9);
-    }
-    copy(z, &x[..d]);
-    Plan::Found(n)
+    let mut x = [0u16; AXES];
+    let listing = set_differences(rows, &mut list);
+    set_levels(rows, listing.top, &mut list);
+    set_swaps(rows, &mut list.swaps);
+    let task = Task {
+        rows: *rows,
+        list: &list,
+        listing,
+    };
+    let found = run_moduli(&task, low, high, &mut x[..rows.d]);
+    let n = found.ok_or(Refusal::NoPlan)?;
+    z.copy_from_slice(&x[..rows.d]);
+    Ok(n)
 }
 
 // The first modulus from low on that counting lets through: none below the tally's bound is worth trying.
-fn start_of(plan: u8, tally: Tally, low: u16) -> u16
-    requires { least_refusal plan tally ≡ 0 }
-    ensures { result ≡ max low (least_modulus plan tally) }
+fn start_of(plan: Plan, tally: Tally, low: u16) -> u16
+    requires { least_refusal (plan_number plan) tally ≡ 0 }
+    ensures { result ≡ max low (least_modulus (plan_number plan) tally) }
 {
-    match least_modulus(plan, tally) {
-        Least::Modulus(least) => { if low < least { least } else { low } }
-        Least::Refused(_) => low,
+    match least_modulus(u8::from(plan), tally) {
+        Ok(least) => low.max(least),
+        Err(_) => low,
     }
 }
 
 // The first plan among the moduli from low to high for a valid list and its record.
 pub(crate) fn first_plan(
-    plan: u8,
-    d: usize,
-    rows: &[i16],
+    rows: &Rows,
     tally: Tally,
     low: u16,
     high: u16,
     z: &mut [u16],
-) -> Plan
-    requires { Searchable plan d rows.now low high z.old × (tally ≡ recount plan d (index_list d rows.now)) }
-    ensures { PlanBetween (Admissible plan (index_list d rows.now)) d low high z.old z.new result }
+) -> Result<u16, Refusal>
+    requires { Searchable rows.now low high z.old × (tally ≡ recount (plan_number rows.now.plan) rows.now.d (rows_in rows.now)) }
+    ensures { PlanBetween (rule_of (plan_number rows.now.plan) rows.now.d rows.now.numbers.now) rows.now.d low high z.old z.new result }
 {
-    let start = start_of(plan, tally, low);
+    let start = start_of(rows.plan, tally, low);
     if high < start {
-        return Plan::Refused(9);
+        return Err(Refusal::NoPlan);
     }
-    search_list(plan, d, rows, start, high, z)
+    search_list(rows, start, high, z)
 }

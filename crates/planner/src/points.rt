@@ -2,58 +2,65 @@
 
 ghost use Rattle.std.specs.Prelude.{◌≡◌, ◌++◌, ℕ, ◌+◌, ◌*◌, ◌%◌, ◌≤◌, ◌<◌, length, get_or, take};
 ghost use Rattle.rank1.specs.Points.{coordinate, point_line, line_count, point_list};
+ghost use Rattle.rank1.specs.Named.{plan_number};
 ghost use Rattle.rank1.specs.Search.{InRange};
 ghost use Rattle.rank1.specs.Valid.{ValidModulus};
 ghost use Rattle.planner.specs.Sizes.{axes, largest_modulus};
 
+use crate::mirrors::takes_mirrors;
 use crate::tent::tent_numerator;
-use crate::widths::wide32;
+use rank1::Plan;
 
-// What stands for a residue: itself for plans 0 and 1, its tent numerator for plans 2, 3 and 4.
-fn coordinate_of(plan: u8, n: u16, r: u16) -> u16
+// What stands for a residue: itself under Integration and Fourier, its tent numerator under plans A, B and C.
+fn coordinate_of(plan: Plan, n: u16, r: u16) -> u16
     requires { (r < n) × (n ≤ largest_modulus) }
-    ensures { result ≡ coordinate plan n r }
+    ensures { result ≡ coordinate (plan_number plan) n r }
 {
-    if plan < 2 { r } else { tent_numerator(n, r) }
+    if !takes_mirrors(plan) {
+        return r;
+    }
+    tent_numerator(n, r)
 }
 
-// How many lines the list has, which is the lens count. Under the tent line n - i equals line i, so plans 2, 3 and 4 keep lines 0 to
-// n / 2 and omit their twins; plans 0 and 1 have all n lines.
-pub(crate) fn line_count(plan: u8, n: u16) -> u16
-    ensures { result ≡ line_count plan n }
+// How many lines the list has, which is the lens count. Under the tent line n - i equals line i, so plans A, B and C keep lines 0 to
+// n / 2 and omit their twins; Integration and Fourier have all n lines.
+pub(crate) fn line_count(plan: Plan, n: u16) -> u16
+    ensures { result ≡ line_count (plan_number plan) n }
 {
-    if plan < 2 { n } else { n / 2 + 1 }
+    if takes_mirrors(plan) { n / 2 + 1 } else { n }
 }
 
 // One component of line i.
-fn entry(plan: u8, n: u16, i: u16, x: u16) -> u16
+fn entry(plan: Plan, n: u16, i: u16, x: u16) -> u16
     requires { (i < n) × (x < n) × (n ≤ largest_modulus) }
-    ensures { result ≡ coordinate plan n ((i * x) % n) }
+    ensures { result ≡ coordinate (plan_number plan) n ((i * x) % n) }
 {
-    let r = wide32(i) * wide32(x) % wide32(n);
+    let r = u32::from(i) * u32::from(x) % u32::from(n);
+    // kept: the remainder is below n; `try_from` would have an `Err` that never comes.
     coordinate_of(plan, n, r as u16)
 }
 
 // Writes line i behind the first `at` numbers.
-fn write_line(plan: u8, n: u16, z: &[u16], i: u16, out: &mut [u16], at: usize)
+// kept: no row is read here and so no products are made, so n and z stand without a `Lattice`, here and below.
+fn write_line(plan: Plan, n: u16, z: &[u16], i: u16, out: &mut [u16], at: usize)
     requires i_lt_n { (i < n) × ValidModulus n × (at + length z.now ≤ length out.old) }
     requires by_index { (j : ℕ) → j < length z.now → get_or z.now j 0 < n }
-    ensures { take (at + length z.now) out.new ≡ take at out.old ++ point_line plan n z.now i }
+    ensures { take (at + length z.now) out.new ≡ take at out.old ++ point_line (plan_number plan) n z.now i }
 {
-    for j in 0..z.len() {
-        out[at + j] = entry(plan, n, i, z[j]);
+    for (j, x) in z.iter().enumerate() {
+        out[at + j] = entry(plan, n, i, *x);
     }
 }
 
 // The lines that are kept, line 0 and up.
-pub(crate) fn write_points(plan: u8, d: usize, n: u16, z: &[u16], out: &mut [u16])
-    requires { (d ≤ axes) × ValidModulus n × InRange n d z.now × (length out.old ≡ line_count plan n * d) }
-    ensures { out.new ≡ point_list plan n z.now }
+pub(crate) fn write_points(plan: Plan, d: usize, n: u16, z: &[u16], out: &mut [u16])
+    requires { (d ≤ axes) × ValidModulus n × InRange n d z.now × (length out.old ≡ line_count (plan_number plan) n * d) }
+    ensures { out.new ≡ point_list (plan_number plan) n z.now }
 {
     let lines = line_count(plan, n);
-    let mut at = 0;
+    // kept: a proof knows no element that is written through `chunks_exact_mut`, so a line is told its place.
     for i in 0..lines {
+        let at = usize::from(i) * d;
         write_line(plan, n, z, i, out, at);
-        at += d;
     }
 }

@@ -4,84 +4,43 @@
 // admissible comes before the vector found last in dictionary order, so the first component goes on from there.
 
 ghost use Rattle.std.specs.Prelude.{◌≡◌, length};
+ghost use Rattle.rank1.specs.Named.{plan_number};
 ghost use Rattle.rank1.specs.Valid.{ValidModulus};
-ghost use Rattle.planner.specs.Stage.{list_tables, modulus_tables, work, rule_of, Tabled, Roomy, Decided, below, Lowerable, Lowered};
+ghost use Rattle.planner.specs.Stage.{rule_of, rule_of_task, TabledTask, Roomy, Decided, Lowerable, Lowered};
 
+use crate::list::Rows;
+use crate::listing::Listing;
 use crate::search::{Search, complete};
 use crate::sieve::set_modulus;
-use crate::vectors::{copy, largest_of};
+use crate::tables::{ListTables, ModulusTables, Work};
+use crate::vectors::largest_of;
 
-// What the search of a list is about at every modulus: the plan, the number of axes, the largest size of a component of a row or of
-// a difference, the largest last component of a difference, and whether no difference was turned away.
+// What the search of a list is about at every modulus: the list, its tables, and what was told when its differences were set.
 #[derive(Clone, Copy)]
-pub(crate) struct Task {
-    pub(crate) plan: u8,
-    pub(crate) d: usize,
-    pub(crate) top: usize,
-    pub(crate) tail: usize,
-    pub(crate) whole: bool,
-}
-
-// The same search with the values below a bound, and a start for the first component.
-fn below(s: Search, bound: u16, start: u16) -> Search
-    ensures { result ≡ below bound start s }
-{
-    Search {
-        plan: s.plan,
-        d: s.d,
-        n: s.n,
-        values: bound,
-        start,
-        top: s.top,
-        tail: s.tail,
-        sieved: s.sieved,
-    }
+pub(crate) struct Task<'a> {
+    pub(crate) rows: Rows<'a>,
+    pub(crate) list: &'a ListTables,
+    pub(crate) listing: Listing,
 }
 
 // The rounds below the largest component of the vector found last, which stands in z at first and in `best` at the end.
 fn lower(
     s: Search,
     rows: &[i16],
-    levels: &[i16],
-    sizes: &[usize],
-    swaps: &[u8],
-    flips: &[u8],
-    components: &[i16],
-    bounds: &[u16],
-    solutions: &[u16],
-    starts: &[usize],
-    steps: &[u16],
+    list: &ListTables,
+    modulus: &ModulusTables,
     z: &mut [u16],
-    sums: &mut [u16],
-    products: &mut [u16],
-    struck: &mut [u8],
-    owners: &mut [u16],
+    work: &mut Work,
     best: &mut [u16],
 )
-    requires { Lowerable s (list_tables rows.now levels.now sizes.now swaps.now flips.now components.now bounds.now) (modulus_tables solutions.now starts.now steps.now) (work z.old sums.old products.old struck.old owners.old) best.old }
-    ensures { Lowered (rule_of s.plan s.d (list_tables rows.now levels.now sizes.now swaps.now flips.now components.now bounds.now)) s.d s.n (modulus_tables solutions.now starts.now steps.now) (work z.new sums.new products.new struck.new owners.new) best.new }
+    requires { Lowerable s rows.now list.now modulus.now z.old work.old best.old }
+    ensures { Lowered (rule_of (plan_number s.plan) s.d rows.now) s.d s.n z.new work.new best.new }
 {
+    // kept: each round starts from what the one before found, so there is no range or slice to pass over.
     loop {
-        copy(best, z);
-        if !complete(
-            below(s, largest_of(z), z[0]),
-            0,
-            rows,
-            levels,
-            sizes,
-            swaps,
-            flips,
-            components,
-            bounds,
-            solutions,
-            starts,
-            steps,
-            z,
-            sums,
-            products,
-            struck,
-            owners,
-        ) {
+        best.copy_from_slice(z);
+        let round = s.below(largest_of(z), z[0]);
+        if !complete(round, 0, rows, list, modulus, z, work) {
             return;
         }
     }
@@ -89,51 +48,37 @@ fn lower(
 
 // The gentlest vector at n in `best`, or n fails with every vector: first all n values are tried, with every prune. Rows that end early
 // are left to the sieve where no difference was turned away and every last component has its solutions.
+// kept: z and the work are written anew at each modulus and `best` only where a vector is found; a struct of the three would be taken apart here.
 pub(crate) fn gentlest_vector(
-    task: Task,
+    task: &Task,
     n: u16,
-    rows: &[i16],
-    levels: &[i16],
-    sizes: &[usize],
-    swaps: &[u8],
-    flips: &[u8],
-    components: &[i16],
-    bounds: &[u16],
-    solutions: &mut [u16],
-    starts: &mut [usize],
-    steps: &mut [u16],
+    modulus: &mut ModulusTables,
     z: &mut [u16],
-    sums: &mut [u16],
-    products: &mut [u16],
-    struck: &mut [u8],
-    owners: &mut [u16],
+    work: &mut Work,
     best: &mut [u16],
 ) -> bool
-    requires tabled { Tabled task.plan task.d task.top task.tail (list_tables rows.now levels.now sizes.now swaps.now flips.now components.now bounds.now) }
-    requires valid_modulus { ValidModulus n × (length best.old ≡ task.d) × Roomy task.d (modulus_tables solutions.old starts.old steps.old) (work z.old sums.old products.old struck.old owners.old) }
-    ensures decided { Decided (rule_of task.plan task.d (list_tables rows.now levels.now sizes.now swaps.now flips.now components.now bounds.now)) task.d n best.new result }
-    ensures roomy { Roomy task.d (modulus_tables solutions.new starts.new steps.new) (work z.new sums.new products.new struck.new owners.new) }
+    requires tabled { TabledTask task.now }
+    requires valid_modulus { ValidModulus n × (length best.old ≡ task.now.rows.d) × Roomy task.now.rows.d z.old work.old }
+    ensures decided { Decided (rule_of_task task.now) task.now.rows.d n best.new result }
+    ensures roomy { Roomy task.now.rows.d z.new work.new }
 {
-    let solved = set_modulus(n, task.d, task.tail, bounds, solutions, starts, steps);
+    let rows = task.rows;
+    let list = task.list;
+    let told = task.listing;
+    let solved = set_modulus(n, rows.d, told.tail, list, modulus);
     let s = Search {
-        plan: task.plan,
-        d: task.d,
+        plan: rows.plan,
+        d: rows.d,
         n,
         values: n,
         start: 0,
-        top: task.top,
-        tail: task.tail,
-        sieved: task.whole & solved,
+        top: told.top,
+        tail: told.tail,
+        sieved: told.whole & solved,
     };
-    if !complete(
-        s, 0, rows, levels, sizes, swaps, flips, components, bounds, solutions, starts, steps, z,
-        sums, products, struck, owners,
-    ) {
+    if !complete(s, 0, rows.numbers, list, modulus, z, work) {
         return false;
     }
-    lower(
-        s, rows, levels, sizes, swaps, flips, components, bounds, solutions, starts, steps, z,
-        sums, products, struck, owners, best,
-    );
+    lower(s, rows.numbers, list, modulus, z, work, best);
     true
 }

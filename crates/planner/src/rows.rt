@@ -1,27 +1,24 @@
-// Rows as they stand in runs of numbers: copying one, and where one ends.
+// Rows as they stand in runs of numbers: one of them, and where one ends.
 
-ghost use Rattle.std.specs.Prelude.{◌≡◌, ◌++◌, ◌+◌, ◌≤◌, length, take, drop};
+ghost use Rattle.std.specs.Prelude.{◌≡◌, ◌+◌, ◌*◌, ◌≤◌, length};
+ghost use Rattle.planner.specs.Inner.{row_at};
 ghost use Rattle.planner.specs.Table.{LastAxis};
 
-// Copies a row behind the first `at` numbers of a run, where it fits.
-pub(crate) fn copy_row(h: &[i16], rows: &mut [i16], at: usize)
-    requires { at + length h.now ≤ length rows.old }
-    ensures { rows.new ≡ take at rows.old ++ take (length h.now) h.now ++ drop (at + length h.now) rows.old }
+// Row i of a run of rows of d numbers.
+// kept: the runs of members and differences have no plan, so they are no `Rows`; that has this function as a method.
+pub(crate) fn row_at(rows: &[i16], i: usize, d: usize) -> &[i16]
+    requires { (i + 1) * d ≤ length rows.now }
+    ensures { (result.now ≡ row_at d rows.now i) × (length result.now ≡ d) }
 {
-    lists::copy_row(h, rows, at);
+    let from = i * d;
+    &rows[from..from + d]
 }
 
+// kept: three modules speak of the promise, which is proved once here.
 // The last axis at which a row is not 0; the first where there is none.
 pub(crate) fn end_of(h: &[i16]) -> usize
     requires { 1 ≤ length h.now }
     ensures { LastAxis h.now result }
 {
-    let mut j = h.len() - 1;
-    while 0 < j {
-        if h[j] != 0 {
-            return j;
-        }
-        j -= 1;
-    }
-    j
+    h.iter().rposition(|x| *x != 0).unwrap_or(0)
 }

@@ -1,42 +1,43 @@
 // The check of a plan's rule on a list whose arguments are known to be valid. One function serves all plans and any depth of a
-// search: z may be shorter than the rows, which then are 0 from its length on. Document 01's form: nested loops over rows and
-// mirrors, left by a label at the first clash.
+// search: the lattice's vector may be shorter than the rows, which then are 0 from its length on. Document 01's form: nested loops over
+// rows and mirrors, left by a label at the first clash.
 
-ghost use Rattle.std.specs.Prelude.{◌≡◌, true, false, ◌≤◌, ◌<◌, ℤ, pos, length};
-ghost use mathlib.Core.List.{List, map, Memᴰ};
+ghost use Rattle.std.specs.Prelude.{◌≡◌, ◌≤◌, ◌<◌, ℤ, pos, map, length};
+ghost use mathlib.Core.List.{List, Memᴰ};
 ghost use Rattle.rank1.specs.Tests.{Decides};
 ghost use Rattle.rank1.specs.Index.{index_list, row_count};
+ghost use Rattle.rank1.specs.Named.{plan_number};
 ghost use Rattle.rank1.specs.Rule.{Integrates, PlanA, Admissible};
 ghost use Rattle.rank1.specs.RuleTest.{admissible};
 ghost use Rattle.rank1.specs.Valid.{Nonnegative, ValidCall};
-ghost use Rattle.planner.specs.Sizes.{most_rows};
+ghost use Rattle.planner.specs.Sizes.{most_rows, largest_modulus};
 ghost use Rattle.planner.specs.Inner.{Ready, Owners, Recorded, Clear, residue_of, clash};
+ghost use Rattle.planner.specs.Lists.{rows_in, ReadyRows, Unsigned, Keeps};
 
-use crate::mirrors::{mirror_count, mirror_residues};
-use crate::products::{prepare_rows, row_at, row_residue};
+use crate::lattice::Lattice;
+use crate::list::Rows;
 use crate::sizes::{LARGEST_MODULUS, MOST_MIRRORS, PRODUCT_ROOM};
-use crate::widths::wide;
 use lists::nonzero_mask;
+use rank1::Plan;
 
 // Empties the first n entries of a table.
+// kept: the promise that the front is clear, of which two callers speak, is proved once here.
 pub(crate) fn clear(table: &mut [u16], n: usize)
     requires { n ≤ length table.old }
     ensures { Clear n table.new }
 {
-    for x in 0..n {
-        table[x] = 0;
-    }
+    table[..n].fill(0);
 }
 
-// Plan 0: no row other than the zero row has residue 0.
-fn integrates(d: usize, rows: &[i16], n: u16, z: &[u16], products: &[u16]) -> bool
-    requires { Ready d rows.now n z.now products.now }
-    ensures { Decides result (Integrates (index_list d rows.now) n (map pos z.now)) }
+// Integration: no row other than the zero row has residue 0.
+fn integrates(rows: &Rows, lattice: &Lattice) -> bool
+    requires { ReadyRows rows.now lattice.now }
+    ensures { Decides result (Integrates (rows_in rows.now) lattice.now.n (map pos lattice.now.z.now)) }
 {
-    for i in 0..rows.len() / d {
-        let row = row_at(rows, i, d);
+    for i in 0..rows.count() {
+        let row = rows.row(i);
         if nonzero_mask(row) != 0 {
-            if row_residue(row, z, n, products) == 0 {
+            if lattice.residue(row) == 0 {
                 return false;
             }
         }
@@ -45,51 +46,36 @@ fn integrates(d: usize, rows: &[i16], n: u16, z: &[u16], products: &[u16]) -> bo
 }
 
 // Records the owner of each row's residue: one more than the row's number. False at the first clash of two rows.
-fn record_owners(
-    d: usize,
-    rows: &[i16],
-    n: u16,
-    z: &[u16],
-    products: &[u16],
-    owners: &mut [u16],
-) -> bool
-    requires ready { Ready d rows.now n z.now products.now }
-    requires n_in_bounds { n ≤ length owners.old }
-    ensures { Recorded n z.now (index_list d rows.now) owners.new result }
+// kept: 0 stands for no owner, since a table of `Option<u16>` would have twice the size in the search's inner call.
+fn record_owners(rows: &Rows, lattice: &Lattice, owners: &mut [u16; LARGEST_MODULUS]) -> bool
+    requires { ReadyRows rows.now lattice.now }
+    ensures { Recorded lattice.now.n lattice.now.z.now (rows_in rows.now) owners.new result }
 {
-    clear(owners, wide(n));
-    for i in 0..rows.len() / d {
-        let r = wide(row_residue(row_at(rows, i, d), z, n, products));
+    clear(owners, usize::from(lattice.n));
+    for i in 0..rows.count() {
+        let r = usize::from(lattice.residue(rows.row(i)));
         if owners[r] != 0 {
             return false;
         }
+        // kept: a list has at most 512 rows; `try_from` would have an `Err` that never comes.
         owners[r] = (i + 1) as u16;
     }
     true
 }
 
 // Plan A: no two members of M have one residue. An entry of the table is 1 where the residue is taken.
-fn all_mirrors_apart(
-    d: usize,
-    rows: &[i16],
-    n: u16,
-    z: &[u16],
-    products: &[u16],
-    taken: &mut [u16],
-) -> bool
-    requires ready { Ready d rows.now n z.now products.now }
-    requires n_in_bounds { n ≤ length taken.old }
-    requires nonnegative { (k : List ℤ) → Memᴰ k (index_list d rows.now) → Nonnegative k }
-    ensures { Decides result (PlanA (index_list d rows.now) n (map pos z.now)) }
+// kept: the marks are numbers, since the table is the one that is lent for the owners.
+fn all_mirrors_apart(rows: &Rows, lattice: &Lattice, taken: &mut [u16; LARGEST_MODULUS]) -> bool
+    requires ready { ReadyRows rows.now lattice.now }
+    requires nonnegative { Unsigned rows.now }
+    ensures { Decides result (PlanA (rows_in rows.now) lattice.now.n (map pos lattice.now.z.now)) }
 {
-    clear(taken, wide(n));
+    clear(taken, usize::from(lattice.n));
     let mut residues = [0u16; MOST_MIRRORS];
     let mut apart = true;
-    'rows: for i in 0..rows.len() / d {
-        let row = row_at(rows, i, d);
-        mirror_residues(row, z, n, products, &mut residues);
-        for t in 0..mirror_count(row) {
-            let r = wide(residues[t]);
+    'rows: for i in 0..rows.count() {
+        for r in lattice.mirror_residues(rows.row(i), &mut residues) {
+            let r = usize::from(*r);
             if taken[r] != 0 {
                 apart = false;
                 break 'rows;
@@ -102,29 +88,19 @@ fn all_mirrors_apart(
 
 // Plans B and C, after the owners are recorded: no mirror but a row itself has the residue of a row; under plan C it may have
 // that of its own row.
-fn mirrors_apart(
-    plan: u8,
-    d: usize,
-    rows: &[i16],
-    n: u16,
-    z: &[u16],
-    products: &[u16],
-    owners: &[u16],
-) -> bool
-    requires ready { Ready d rows.now n z.now products.now }
-    requires le_plan { (3 ≤ plan) × (plan ≤ 4) × (n ≤ length owners.now) }
-    requires nonnegative { (k : List ℤ) → Memᴰ k (index_list d rows.now) → Nonnegative k }
-    requires owners { Owners (residue_of n z.now (index_list d rows.now)) n (row_count d rows.now) owners.now }
-    ensures { Decides result (Admissible plan (index_list d rows.now) n (map pos z.now)) }
+fn mirrors_apart(rows: &Rows, lattice: &Lattice, owners: &[u16; LARGEST_MODULUS]) -> bool
+    requires ready { ReadyRows rows.now lattice.now }
+    requires le_plan { 3 ≤ plan_number rows.now.plan }
+    requires nonnegative { Unsigned rows.now }
+    requires owners { Owners (residue_of lattice.now.n lattice.now.z.now (rows_in rows.now)) lattice.now.n (row_count rows.now.d rows.now.numbers.now) owners.now }
+    ensures { Decides result (Keeps rows.now lattice.now) }
 {
     let mut residues = [0u16; MOST_MIRRORS];
     let mut apart = true;
-    'rows: for i in 0..rows.len() / d {
-        let row = row_at(rows, i, d);
-        mirror_residues(row, z, n, products, &mut residues);
-        for t in 1..mirror_count(row) {
-            let owner = wide(owners[wide(residues[t])]);
-            if clashes(plan, i, owner) {
+    'rows: for i in 0..rows.count() {
+        for r in &lattice.mirror_residues(rows.row(i), &mut residues)[1..] {
+            let owner = usize::from(owners[usize::from(*r)]);
+            if clashes(rows.plan, i, owner) {
                 apart = false;
                 break 'rows;
             }
@@ -134,56 +110,51 @@ fn mirrors_apart(
 }
 
 // Whether the owner of a residue forbids it to a mirror of row i.
-fn clashes(plan: u8, i: usize, owner: usize) -> bool
+fn clashes(plan: Plan, i: usize, owner: usize) -> bool
     requires { i < most_rows }
-    ensures { result ≡ clash plan i owner }
+    ensures { result ≡ clash (plan_number plan) i owner }
 {
     if owner == 0 {
         return false;
     }
-    if plan == 3 {
-        return true;
+    match plan {
+        Plan::B => true,
+        _ => owner != i + 1,
     }
-    owner != i + 1
 }
 
-// The plan's rule.
-pub(crate) fn rule_holds(
-    plan: u8,
-    d: usize,
-    rows: &[i16],
-    n: u16,
-    z: &[u16],
-    products: &[u16],
-    owners: &mut [u16],
+// The rule of the rows' plan.
+pub(crate) fn keeps_rule(
+    rows: &Rows,
+    lattice: &Lattice,
+    owners: &mut [u16; LARGEST_MODULUS],
 ) -> bool
-    requires ready { Ready d rows.now n z.now products.now }
-    requires plan_bound { (plan ≤ 4) × (n ≤ length owners.old) }
-    requires nonnegative { 2 ≤ plan → (k : List ℤ) → Memᴰ k (index_list d rows.now) → Nonnegative k }
-    ensures { Decides result (Admissible plan (index_list d rows.now) n (map pos z.now)) }
+    requires ready { ReadyRows rows.now lattice.now }
+    requires nonnegative { 2 ≤ plan_number rows.now.plan → Unsigned rows.now }
+    ensures decided { Decides result (Keeps rows.now lattice.now) }
+    ensures owner_size { length owners.new ≡ length owners.old }
 {
-    if plan == 0 {
-        return integrates(d, rows, n, z, products);
+    match rows.plan {
+        Plan::Integration => integrates(rows, lattice),
+        Plan::Fourier => record_owners(rows, lattice, owners),
+        Plan::A => all_mirrors_apart(rows, lattice, owners),
+        Plan::B | Plan::C => {
+            if !record_owners(rows, lattice, owners) {
+                return false;
+            }
+            mirrors_apart(rows, lattice, owners)
+        }
     }
-    if plan == 2 {
-        return all_mirrors_apart(d, rows, n, z, products, owners);
-    }
-    if !record_owners(d, rows, n, z, products, owners) {
-        return false;
-    }
-    if plan == 1 {
-        return true;
-    }
-    mirrors_apart(plan, d, rows, n, z, products, owners)
 }
 
 // The plan's rule of a valid list and pair, with tables of its own.
-pub(crate) fn admits(plan: u8, d: usize, rows: &[i16], n: u16, z: &[u16]) -> bool
-    requires { ValidCall plan d rows.now n z.now }
-    ensures { result ≡ admissible plan (index_list d rows.now) n (map pos z.now) }
+// kept: n and z stand one by one, since their `Lattice` is made here.
+pub(crate) fn admits(rows: &Rows, n: u16, z: &[u16]) -> bool
+    requires { ValidCall (plan_number rows.now.plan) rows.now.d rows.now.numbers.now n z.now }
+    ensures { result ≡ admissible (plan_number rows.now.plan) (rows_in rows.now) n (map pos z.now) }
 {
     let mut products = [0u16; PRODUCT_ROOM];
     let mut owners = [0u16; LARGEST_MODULUS];
-    prepare_rows(plan, d, rows, n, z, &mut products);
-    rule_holds(plan, d, rows, n, z, &products, &mut owners)
+    let lattice = Lattice::of(rows, n, z, &mut products);
+    keeps_rule(rows, &lattice, &mut owners)
 }

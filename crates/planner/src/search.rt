@@ -16,15 +16,19 @@
 // of a component are tried, in the first round of a modulus (rounds.rt); the other prunes hold with fewer values too.
 
 ghost use Rattle.std.specs.Prelude.{◌≡◌, true, false, ◌+◌, ◌*◌, ◌≤◌, ◌<◌, length};
+ghost use Rattle.rank1.specs.Named.{plan_number};
 ghost use Rattle.planner.specs.Sizes.{axes, largest_modulus};
-ghost use Rattle.planner.specs.Stage.{Listed, Prefixed, EndsHold, Raised, Lowest, ValueEnd, NextFree, CannotLead, Siftable, Sifted, Summable, SumsAdded, Triable, Tried, list_tables, modulus_tables, work, rule_of, Stage, KeptBefore, Completed};
+ghost use Rattle.planner.specs.Stage.{Listed, Prefixed, EndsHold, Raised, Lowest, ValueEnd, NextFree, CannotLead, Siftable, Sifted, Summable, SumsAdded, Triable, Tried, below, rule_of, Stage, KeptBefore, Completed};
 
+use crate::lattice::Lattice;
 use crate::levels::level_at;
+use crate::list::Rows;
 use crate::products::set_axis;
-use crate::rule::rule_holds;
+use crate::rule::keeps_rule;
 use crate::sieve::{set_sums, sieve, sieve_first};
 use crate::sizes::{AXES, LARGEST_MODULUS, LASTS};
-use crate::widths::wide;
+use crate::tables::{ListTables, ModulusTables, Work};
+use rank1::Plan;
 
 // What a search at one modulus is about; it goes down the recursion by value: the plan, the number of axes, the modulus, how many
 // values of a component are tried, the value at which the first component starts, the largest size of a component of a row or of a
@@ -32,7 +36,7 @@ use crate::widths::wide;
 // test of their own).
 #[derive(Clone, Copy)]
 pub(crate) struct Search {
-    pub(crate) plan: u8,
+    pub(crate) plan: Plan,
     pub(crate) d: usize,
     pub(crate) n: u16,
     pub(crate) values: u16,
@@ -43,69 +47,84 @@ pub(crate) struct Search {
 }
 
 // The larger of two values where axes can change places.
-fn raised(low: u16, mark: u8, x: u16) -> u16
+fn raised(low: u16, mark: bool, x: u16) -> u16
     ensures { Raised low mark x result }
 {
-    if mark == 0 {
-        return low;
-    }
-    if low < x { x } else { low }
+    if mark & (low < x) { x } else { low }
 }
 
-// The lowest value of component at. The first component starts where it is told to; a later one is not below that of an earlier axis
-// with which its axis can change places.
-fn lowest(start: u16, at: usize, swaps: &[u8], z: &[u16]) -> u16
-    requires { (at < axes) × (length swaps.now ≡ axes * axes) × (at ≤ length z.now) }
-    ensures { Lowest start swaps.now at z.now result }
-{
-    let mut low = 0;
-    for i in 0..at {
-        low = raised(low, swaps[i * AXES + at], z[i]);
+impl Search {
+    // The same search with the values below a bound, and a start for the first component.
+    pub(crate) fn below(self, bound: u16, start: u16) -> Search
+        ensures { result ≡ below bound start self }
+    {
+        Search {
+            values: bound,
+            start,
+            ..self
+        }
     }
-    if at == 0 { start } else { low }
-}
 
-// Where the values of component at end: behind n / 2 where the sign of its axis can change.
-fn value_end(n: u16, values: u16, at: usize, flips: &[u8]) -> u16
-    requires { at < length flips.now }
-    ensures { ValueEnd n values at flips.now result }
-{
-    if flips[at] == 0 {
-        return values;
+    // The lowest value of component at. The first component starts where it is told to; a later one is not below that of an earlier
+    // axis with which its axis can change places.
+    fn lowest(self, at: usize, swaps: &[bool], z: &[u16]) -> u16
+        requires { (at < axes) × (length swaps.now ≡ axes * axes) × (at ≤ length z.now) }
+        ensures { Lowest self.start swaps.now at z.now result }
+    {
+        let mut low = 0;
+        // kept: i is an axis, with a place in the marks by both axes and another in z.
+        for i in 0..at {
+            low = raised(low, swaps[i * AXES + at], z[i]);
+        }
+        if at == 0 { self.start } else { low }
     }
-    let half = n / 2;
-    if half < values { half + 1 } else { values }
+
+    // Where the values of component at end: behind n / 2 where the sign of its axis can change.
+    fn value_end(self, at: usize, flips: &[bool]) -> u16
+        requires { at < length flips.now }
+        ensures { ValueEnd self.n self.values at flips.now result }
+    {
+        if !flips[at] {
+            return self.values;
+        }
+        let half = self.n / 2;
+        if half < self.values {
+            half + 1
+        } else {
+            self.values
+        }
+    }
+
+    // Whether scaling rules v out as a first component: it neither is 0 nor divides n. It holds only where n values are tried.
+    fn cannot_lead(self, at: usize, v: u16) -> bool
+        ensures { result ≡ true → CannotLead self at v }
+    {
+        if at != 0 {
+            return false;
+        }
+        if self.values != self.n {
+            return false;
+        }
+        if v == 0 {
+            return false;
+        }
+        self.n % v != 0
+    }
 }
 
 // The first value from `from` on that is not struck; the end where there is none.
+// kept: without an Option, which misses the bar of speed that this form meets: on the slowest list of bench/ it takes 1.5 to 1.6 times
+// the peer's time, this form 1.3 to 1.4 (at most 1.5). An index, since the value is what is answered.
 fn next_free(base: usize, from: u16, end: u16, struck: &[u8]) -> u16
     requires { (base + end ≤ length struck.now) × (base ≤ axes * largest_modulus) }
     ensures { NextFree base from end struck.now result }
 {
-    let mut v = from;
-    while v < end {
-        if struck[base + wide(v)] == 0 {
+    for v in from..end {
+        if struck[base + usize::from(v)] == 0 {
             return v;
         }
-        v += 1;
     }
     end
-}
-
-// Whether scaling rules v out as a first component: it neither is 0 nor divides n. It holds only where n values are tried.
-fn cannot_lead(s: Search, at: usize, v: u16) -> bool
-    ensures { result ≡ true → CannotLead s at v }
-{
-    if at != 0 {
-        return false;
-    }
-    if s.values != s.n {
-        return false;
-    }
-    if v == 0 {
-        return false;
-    }
-    s.n % v != 0
 }
 
 // The rule on the rows that are 0 from axis at on; the sieve has done it where every difference is struck. False where it fails: no
@@ -114,87 +133,73 @@ fn ends_hold(
     s: Search,
     at: usize,
     rows: &[i16],
-    levels: &[i16],
-    sizes: &[usize],
+    list: &ListTables,
     z: &[u16],
-    products: &[u16],
-    owners: &mut [u16],
+    work: &mut Work,
 ) -> bool
-    requires listed { Listed s.plan s.d s.top rows.now levels.now sizes.now }
-    requires prefixed { Prefixed s at z.now products.now owners.old }
-    ensures { EndsHold s at rows.now z.now result }
+    requires listed { Listed (plan_number s.plan) s.d s.top rows.now list.now }
+    requires prefixed { Prefixed s at z.now work.old.products work.old.owners }
+    ensures holds { EndsHold s at rows.now z.now result }
+    ensures only { work.new ≡ record work.old { owners = work.new.owners } }
+    ensures owner_size { length work.new.owners ≡ length work.old.owners }
 {
     if s.sieved {
         return true;
     }
-    rule_holds(
-        s.plan,
-        s.d,
-        level_at(at, levels, sizes),
-        s.n,
-        &z[..at],
-        products,
-        owners,
-    )
+    let level = level_at(at, list);
+    let ending = Rows {
+        plan: s.plan,
+        d: s.d,
+        numbers: level,
+    };
+    let lattice = Lattice {
+        n: s.n,
+        z: &z[..at],
+        products: &work.products,
+    };
+    keeps_rule(&ending, &lattice, &mut work.owners)
 }
 
 // Marks the values of component at that a difference forbids.
-fn sieve_at(
-    n: u16,
-    at: usize,
-    tail: usize,
-    components: &[i16],
-    bounds: &[u16],
-    solutions: &[u16],
-    starts: &[usize],
-    steps: &[u16],
-    sums: &[u16],
-    products: &[u16],
-    struck: &mut [u8],
-)
-    requires { Siftable n at tail components.now bounds.now products.now sums.now solutions.now starts.now steps.now struck.old }
-    ensures { Sifted n at components.now bounds.now products.now sums.now struck.old struck.new }
+fn sieve_at(s: Search, at: usize, list: &ListTables, modulus: &ModulusTables, work: &mut Work)
+    requires { Siftable s.n at s.tail list.now modulus.now work.old }
+    ensures { Sifted s.n at list.now work.old work.new }
 {
     if at == 0 {
-        let end = wide(n);
-        sieve_first(n, tail, bounds, steps, &mut struck[..end]);
+        let end = usize::from(s.n);
+        sieve_first(
+            s.n,
+            s.tail,
+            &list.bounds,
+            &modulus.steps,
+            &mut work.struck[..end],
+        );
         return;
     }
-    sieve(
-        n,
-        at - 1,
-        components,
-        bounds,
-        solutions,
-        starts,
-        steps,
-        sums,
-        products,
-        struck,
-    );
+    sieve(s.n, at - 1, list, modulus, work);
 }
 
 // Sets section at of the sums, behind the first axis: the parts before axis at of the differences that end behind it. It is done only
 // where a value of component at is left, so that a prefix that ends here costs no pass over the later differences.
-fn add_sums(
-    n: u16,
-    d: usize,
-    at: usize,
-    components: &[i16],
-    bounds: &[u16],
-    products: &[u16],
-    sums: &mut [u16],
-)
-    requires { Summable n d at components.now bounds.now products.now sums.old }
-    ensures { SumsAdded n d at components.now bounds.now products.now sums.old sums.new }
+fn add_sums(n: u16, d: usize, at: usize, list: &ListTables, work: &mut Work)
+    requires { Summable n d at list.now work.old }
+    ensures { SumsAdded n d at list.now work.old work.new }
 {
     if at == 0 {
         return;
     }
     if at + 1 < d {
-        let from = wide(bounds[(at + 1) * LASTS]);
-        let to = wide(bounds[d * LASTS]);
-        set_sums(n, at - 1, from, to, components, products, sums);
+        let from = usize::from(list.bounds[(at + 1) * LASTS]);
+        let to = usize::from(list.bounds[d * LASTS]);
+        set_sums(
+            n,
+            at - 1,
+            from,
+            to,
+            &list.components,
+            &work.products,
+            &mut work.sums,
+        );
     }
 }
 
@@ -204,21 +209,19 @@ fn try_component(
     at: usize,
     v: u16,
     rows: &[i16],
-    levels: &[i16],
-    sizes: &[usize],
+    list: &ListTables,
     z: &mut [u16],
-    products: &mut [u16],
-    owners: &mut [u16],
+    work: &mut Work,
 ) -> bool
-    requires { Triable s at v rows.now levels.now sizes.now z.old products.old owners.old }
-    ensures { Tried s at v rows.now z.old products.old z.new products.new owners.new result }
+    requires { Triable s at v rows.now list.now z.old work.old }
+    ensures { Tried s at v rows.now z.old work.old z.new work.new result }
 {
     z[at] = v;
-    if cannot_lead(s, at, v) {
+    if s.cannot_lead(at, v) {
         return false;
     }
-    set_axis(products, at, v, s.n, s.top);
-    ends_hold(s, at + 1, rows, levels, sizes, z, products, owners)
+    set_axis(&mut work.products, at, v, s.n, s.top);
+    ends_hold(s, at + 1, rows, list, z, work)
 }
 
 // Completes z from component at on: the values that are left are tried from the lowest up. The vector is checked whole.
@@ -226,64 +229,45 @@ pub(crate) fn complete(
     s: Search,
     at: usize,
     rows: &[i16],
-    levels: &[i16],
-    sizes: &[usize],
-    swaps: &[u8],
-    flips: &[u8],
-    components: &[i16],
-    bounds: &[u16],
-    solutions: &[u16],
-    starts: &[usize],
-    steps: &[u16],
+    list: &ListTables,
+    modulus: &ModulusTables,
     z: &mut [u16],
-    sums: &mut [u16],
-    products: &mut [u16],
-    struck: &mut [u8],
-    owners: &mut [u16],
+    work: &mut Work,
 ) -> bool
-    requires { Stage s (list_tables rows.now levels.now sizes.now swaps.now flips.now components.now bounds.now) (modulus_tables solutions.now starts.now steps.now) at (work z.old sums.old products.old struck.old owners.old) }
-    ensures completed { Completed (rule_of s.plan s.d (list_tables rows.now levels.now sizes.now swaps.now flips.now components.now bounds.now)) s.d s.n s.values at z.old z.new result }
-    ensures kept_before { KeptBefore at (work z.old sums.old products.old struck.old owners.old) (work z.new sums.new products.new struck.new owners.new) }
+    requires { Stage s rows.now list.now modulus.now at z.old work.old }
+    ensures completed { Completed (rule_of (plan_number s.plan) s.d rows.now) s.d s.n s.values at z.old z.new result }
+    ensures kept_before { KeptBefore at z.old work.old z.new work.new }
 {
     if at == s.d {
-        return rule_holds(s.plan, s.d, rows, s.n, z, products, owners);
+        let rows = Rows {
+            plan: s.plan,
+            d: s.d,
+            numbers: rows,
+        };
+        let lattice = Lattice {
+            n: s.n,
+            z,
+            products: &work.products,
+        };
+        return keeps_rule(&rows, &lattice, &mut work.owners);
     }
-    sieve_at(
-        s.n, at, s.tail, components, bounds, solutions, starts, steps, sums, products, struck,
-    );
+    sieve_at(s, at, list, modulus, work);
     let base = at * LARGEST_MODULUS;
-    let low = lowest(s.start, at, swaps, z);
-    let end = value_end(s.n, s.values, at, flips);
-    let mut v = next_free(base, low, end, struck);
+    let low = s.lowest(at, &list.swaps, z);
+    let end = s.value_end(at, &list.flips);
+    let mut v = next_free(base, low, end, &work.struck);
     if end <= v {
         return false;
     }
-    add_sums(s.n, s.d, at, components, bounds, products, sums);
+    add_sums(s.n, s.d, at, list, work);
+    // kept: a turn goes on to the next value that is not struck; a `for` over all values would ask for each mark in the body.
     while v < end {
-        if try_component(s, at, v, rows, levels, sizes, z, products, owners) {
-            if complete(
-                s,
-                at + 1,
-                rows,
-                levels,
-                sizes,
-                swaps,
-                flips,
-                components,
-                bounds,
-                solutions,
-                starts,
-                steps,
-                z,
-                sums,
-                products,
-                struck,
-                owners,
-            ) {
+        if try_component(s, at, v, rows, list, z, work) {
+            if complete(s, at + 1, rows, list, modulus, z, work) {
                 return true;
             }
         }
-        v = next_free(base, v + 1, end, struck);
+        v = next_free(base, v + 1, end, &work.struck);
     }
     false
 }

@@ -1,18 +1,18 @@
 // The sieve: which values of a component the differences that end at its axis rule out, all at once. The contracts are about
 // soundness: a mark has a reason. That none is missing is speed.
 
-ghost use Rattle.std.specs.Prelude.{◌≡◌, ℕ, suc, ◌+◌, ◌*◌, ◌%◌, ◌≤◌, ◌<◌, length, get_or};
+ghost use Rattle.std.specs.Prelude.{◌≡◌, MatchOption, ℕ, suc, ◌+◌, ◌*◌, ◌%◌, ◌≤◌, ◌<◌, length, get_or};
 ghost use Rattle.rank1.specs.Valid.{ValidModulus};
 ghost use Rattle.planner.specs.Sieve.{Markable, Marking, SolutionsSet, SolutionsOf, Tabulable, TablesTo, Run, part, Strikable, Struck, Readable, SumsSet, RunAsked, RunStart, Sievable, Barred, AllBarred, Sieved, FirstSievable, FirstBarred, AllFirstBarred};
 ghost use Rattle.planner.specs.Sizes.{axes, largest_modulus, room, lasts};
 
-use crate::products::{negative, place_of, size_of, sum_of};
-use crate::rule::clear;
+use crate::products::{negative, place_of, sum_of};
 use crate::runs::occurs;
 use crate::sizes::{LARGEST_MODULUS, LASTS, PLACES, ROOM, SOLUTION_ROOM};
-use crate::widths::wide;
+use crate::tables::{ListTables, ModulusTables, Work};
 
 // Sets the residues of the parts before axis at + 1, for the differences from `from` to before `to`, from those before axis at.
+// kept: the sums are written here, so they are not lent with the products in a Prefix, which is read alone.
 pub(crate) fn set_sums(
     n: u16,
     at: usize,
@@ -28,91 +28,85 @@ pub(crate) fn set_sums(
     let here = at * ROOM;
     let next = here + ROOM;
     let axis = at * PLACES;
+    // kept: e is read in two slices, and what is read and what is written are parts of one array.
     for e in from..to {
         let place = axis + place_of(components[here + e]);
         sums[next + e] = sum_of(sums[here + e], products[place], n);
     }
 }
 
-// The residue of the part of difference i before the axis at which the run ends.
-fn part_of(n: u16, sums: &[u16], components: &[i16], products: &[u16], i: usize) -> u16
-    requires { Run n sums.now components.now products.now × (i < length sums.now) }
-    ensures { (result ≡ part n sums.now components.now products.now i) × (result < n) }
-{
-    sum_of(sums[i], products[place_of(components[i])], n)
+// What is fixed before the axis that is sieved: the modulus, the axis before it, and the sums and products up to there.
+#[derive(Clone, Copy)]
+struct Prefix<'a> {
+    n: u16,
+    before: usize,
+    sums: &'a [u16],
+    products: &'a [u16],
 }
 
-// Marks v and what is a number of steps behind it, below n.
+// The differences of a run without their last components: their sums before the axis before last, their components on that axis, and
+// its products.
+#[derive(Clone, Copy)]
+struct RunParts<'a> {
+    sums: &'a [u16],
+    components: &'a [i16],
+    products: &'a [u16],
+}
+
+// The residue of the part of difference i before the axis at which the run ends.
+fn part_of(n: u16, run: &RunParts, i: usize) -> u16
+    requires { Run n run.now.sums.now run.now.components.now run.now.products.now × (i < length run.now.sums.now) }
+    ensures { (result ≡ part n run.now.sums.now run.now.components.now run.now.products.now i) × (result < n) }
+{
+    sum_of(run.sums[i], run.products[place_of(run.components[i])], n)
+}
+
+// Marks v and what is a number of steps behind it, below n (a `while`: by `step_by` the proof closes, and the speed is not settled yet).
 fn mark_steps(n: u16, v: u16, step: u16, struck: &mut [u8])
     requires { Markable n step struck.old }
     ensures { Marking v step struck.old struck.new }
 {
     let mut w = v;
     while w < n {
-        struck[wide(w)] = 1;
+        struck[usize::from(w)] = 1;
         w += step;
     }
 }
 
 // Strikes, for each difference of a run that ends with component t, all its solutions, which are one step apart.
-fn strike_steps(
-    n: u16,
-    t: usize,
-    step: u16,
-    sums: &[u16],
-    components: &[i16],
-    products: &[u16],
-    solutions: &[u16],
-    struck: &mut [u8],
-)
-    requires { Strikable n sums.now components.now products.now t step solutions.now struck.old }
-    ensures { Struck n sums.now components.now products.now t struck.old struck.new }
+// kept: here and in the next function, an index, which reads two slices.
+fn strike_steps(n: u16, t: usize, step: u16, run: &RunParts, solutions: &[u16], struck: &mut [u8])
+    requires { Strikable n run.now.sums.now run.now.components.now run.now.products.now t step solutions.now struck.old }
+    ensures { Struck n run.now.sums.now run.now.components.now run.now.products.now t struck.old struck.new }
 {
-    for i in 0..sums.len() {
-        let c = part_of(n, sums, components, products, i);
-        mark_steps(n, solutions[wide(c)], step, struck);
+    for i in 0..run.sums.len() {
+        let c = part_of(n, run, i);
+        mark_steps(n, solutions[usize::from(c)], step, struck);
     }
 }
 
 // Strikes, for each difference of a run that ends with component t, its one solution. There is no test: where a difference has
 // none, mark n is set, which stands for no value.
-fn strike_single(
-    n: u16,
-    t: usize,
-    sums: &[u16],
-    components: &[i16],
-    products: &[u16],
-    solutions: &[u16],
-    struck: &mut [u8],
-)
-    requires { Strikable n sums.now components.now products.now t n solutions.now struck.old }
-    ensures { Struck n sums.now components.now products.now t struck.old struck.new }
+fn strike_single(n: u16, t: usize, run: &RunParts, solutions: &[u16], struck: &mut [u8])
+    requires { Strikable n run.now.sums.now run.now.components.now run.now.products.now t n solutions.now struck.old }
+    ensures { Struck n run.now.sums.now run.now.components.now run.now.products.now t struck.old struck.new }
 {
-    for i in 0..sums.len() {
-        let c = part_of(n, sums, components, products, i);
-        struck[wide(solutions[wide(c)])] = 1;
+    for i in 0..run.sums.len() {
+        let c = part_of(n, run, i);
+        struck[usize::from(solutions[usize::from(c)])] = 1;
     }
 }
 
 // Strikes all solutions of the differences of a run that ends with component t: one each where t has an inverse modulo n, else
 // none or some that are a step apart.
-fn strike(
-    n: u16,
-    t: usize,
-    step: u16,
-    sums: &[u16],
-    components: &[i16],
-    products: &[u16],
-    solutions: &[u16],
-    struck: &mut [u8],
-)
-    requires { Strikable n sums.now components.now products.now t step solutions.now struck.old }
-    ensures { Struck n sums.now components.now products.now t struck.old struck.new }
+fn strike(n: u16, t: usize, step: u16, run: &RunParts, solutions: &[u16], struck: &mut [u8])
+    requires { Strikable n run.now.sums.now run.now.components.now run.now.products.now t step solutions.now struck.old }
+    ensures { Struck n run.now.sums.now run.now.components.now run.now.products.now t struck.old struck.new }
 {
     if step == n {
-        strike_single(n, t, sums, components, products, solutions, struck);
+        strike_single(n, t, run, solutions, struck);
     } else {
-        strike_steps(n, t, step, sums, components, products, solutions, struck);
+        strike_steps(n, t, step, run, solutions, struck);
     }
 }
 
@@ -121,57 +115,40 @@ fn run_start(bounds: &[u16], before: usize, t: usize) -> usize
     requires { RunAsked bounds.now before t }
     ensures { RunStart bounds.now before t result }
 {
-    before * ROOM + wide(bounds[(before + 1) * LASTS + t])
+    before * ROOM + usize::from(bounds[(before + 1) * LASTS + t])
 }
 
 // Strikes by the run of the differences that end at the axis behind `before` with component t, where t has a table of solutions and
 // the run a difference.
 fn strike_run(
-    n: u16,
-    before: usize,
+    prefix: &Prefix,
     t: usize,
-    components: &[i16],
-    bounds: &[u16],
-    solutions: &[u16],
-    starts: &[usize],
-    steps: &[u16],
-    sums: &[u16],
-    products: &[u16],
+    list: &ListTables,
+    modulus: &ModulusTables,
     struck: &mut [u8],
 )
-    requires sievable { Sievable n before components.now bounds.now products.now sums.now solutions.now starts.now steps.now }
-    requires t_lt_lasts { (t < lasts) × (n < length struck.old) }
-    ensures { Barred n before components.now bounds.now products.now sums.now struck.old struck.new }
+    requires sievable { Sievable prefix.now.n prefix.now.before list.now prefix.now.products.now prefix.now.sums.now modulus.now }
+    requires t_lt_lasts { (t < lasts) × (prefix.now.n < length struck.old) }
+    ensures { Barred prefix.now.n prefix.now.before list.now prefix.now.products.now prefix.now.sums.now struck.old struck.new }
 {
-    let step = steps[t];
+    let n = prefix.n;
+    let before = prefix.before;
+    let step = modulus.steps[t];
     if step != 0 {
-        let begin = run_start(bounds, before, t);
-        let end = run_start(bounds, before, t + 1);
+        let begin = run_start(&list.bounds, before, t);
+        let end = run_start(&list.bounds, before, t + 1);
         if begin < end {
             let axis = before * PLACES;
             let behind = axis + PLACES;
-            let start = starts[t];
-            let stop = start + wide(n);
-            strike(
-                n,
-                t,
-                step,
-                &sums[begin..end],
-                &components[begin..end],
-                &products[axis..behind],
-                &solutions[start..stop],
-                struck,
-            );
+            let start = modulus.starts[t];
+            let stop = start + usize::from(n);
+            let run = RunParts {
+                sums: &prefix.sums[begin..end],
+                components: &list.components[begin..end],
+                products: &prefix.products[axis..behind],
+            };
+            strike(n, t, step, &run, &modulus.solutions[start..stop], struck);
         }
-    }
-}
-
-// Takes all marks of a part away.
-fn clear_marks(struck: &mut [u8])
-    ensures { (length struck.new ≡ length struck.old) × ((v : ℕ) → v < length struck.old → get_or struck.new v 0 ≡ 0) }
-{
-    for v in 0..struck.len() {
-        struck[v] = 0;
     }
 }
 
@@ -187,31 +164,20 @@ fn next_run(at: usize, bound: usize) -> usize
 // run to run: `at` is the place of a run's first difference among the numbers of axis `before`, and ROOM places on, among those of the
 // axis behind, stands its last component. Where the next run starts is looked up before this one is struck: the processor then need not
 // wait for it.
-fn strike_runs(
-    n: u16,
-    before: usize,
-    components: &[i16],
-    bounds: &[u16],
-    solutions: &[u16],
-    starts: &[usize],
-    steps: &[u16],
-    sums: &[u16],
-    products: &[u16],
-    struck: &mut [u8],
-)
-    requires sievable { Sievable n before components.now bounds.now products.now sums.now solutions.now starts.now steps.now }
-    requires struck_len { length struck.old ≡ suc n }
-    ensures { AllBarred n before components.now bounds.now products.now sums.now struck.new }
+fn strike_runs(prefix: &Prefix, list: &ListTables, modulus: &ModulusTables, struck: &mut [u8])
+    requires sievable { Sievable prefix.now.n prefix.now.before list.now prefix.now.products.now prefix.now.sums.now modulus.now }
+    requires struck_len { length struck.old ≡ suc prefix.now.n }
+    ensures { AllBarred prefix.now.n prefix.now.before list.now prefix.now.products.now prefix.now.sums.now struck.new }
 {
-    clear_marks(struck);
-    let end = run_start(bounds, before, LASTS);
-    let mut at = run_start(bounds, before, 0);
+    struck.fill(0);
+    let before = prefix.before;
+    let end = run_start(&list.bounds, before, LASTS);
+    let mut at = run_start(&list.bounds, before, 0);
+    // kept: the walk goes on by a bound that is read in the tables, so there is no range of steps to pass over.
     while at < end {
-        let t = size_of(components[at + ROOM]);
-        let next = next_run(at, run_start(bounds, before, t + 1));
-        strike_run(
-            n, before, t, components, bounds, solutions, starts, steps, sums, products, struck,
-        );
+        let t = usize::from(list.components[at + ROOM].unsigned_abs());
+        let next = next_run(at, run_start(&list.bounds, before, t + 1));
+        strike_run(prefix, t, list, modulus, struck);
         at = next;
     }
 }
@@ -230,13 +196,13 @@ fn strike_first(n: u16, t: usize, bounds: &[u16], steps: &[u16], struck: &mut [u
 }
 
 // Sieves the first component: its marks are those of the values with which a difference that ends there has residue 0.
-pub(crate) fn sieve_first(n: u16, tail: usize, bounds: &[u16], steps: &[u16], struck: &mut [u8])
-    requires { FirstSievable n tail bounds.now steps.now struck.old }
-    ensures { AllFirstBarred n bounds.now struck.old struck.new }
+pub(crate) fn sieve_first(n: u16, tail: usize, bounds: &[u16], steps: &[u16], marks: &mut [u8])
+    requires { FirstSievable n tail bounds.now steps.now marks.old }
+    ensures { AllFirstBarred n bounds.now marks.old marks.new }
 {
-    clear_marks(struck);
+    marks.fill(0);
     for t in 1..tail + 1 {
-        strike_first(n, t, bounds, steps, struck);
+        strike_first(n, t, bounds, steps, marks);
     }
 }
 
@@ -244,52 +210,33 @@ pub(crate) fn sieve_first(n: u16, tail: usize, bounds: &[u16], steps: &[u16], st
 pub(crate) fn sieve(
     n: u16,
     before: usize,
-    components: &[i16],
-    bounds: &[u16],
-    solutions: &[u16],
-    starts: &[usize],
-    steps: &[u16],
-    sums: &[u16],
-    products: &[u16],
-    struck: &mut [u8],
+    list: &ListTables,
+    modulus: &ModulusTables,
+    work: &mut Work,
 )
-    requires sievable { Sievable n before components.now bounds.now products.now sums.now solutions.now starts.now steps.now }
-    requires struck_len { length struck.old ≡ suc (axes * largest_modulus) }
-    ensures { Sieved n before components.now bounds.now products.now sums.now struck.old struck.new }
+    requires { Sievable n before list.now work.old.products work.old.sums modulus.now }
+    ensures sieved { Sieved n before list.now work.old.products work.old.sums work.old.struck work.new.struck }
+    ensures only { work.new ≡ record work.old { struck = work.new.struck } }
 {
     let first = (before + 1) * LARGEST_MODULUS;
-    let end = first + wide(n) + 1;
-    strike_runs(
+    let end = first + usize::from(n) + 1;
+    let prefix = Prefix {
         n,
         before,
-        components,
-        bounds,
-        solutions,
-        starts,
-        steps,
-        sums,
-        products,
-        &mut struck[first..end],
-    );
+        sums: &work.sums,
+        products: &work.products,
+    };
+    strike_runs(&prefix, list, modulus, &mut work.struck[first..end]);
 }
 
-// Sets the first n places to n, which stands for no solution.
-fn set_none(n: u16, solutions: &mut [u16])
-    requires { n ≤ length solutions.old }
-    ensures { (length solutions.new ≡ length solutions.old) × ((c : ℕ) → c < n → get_or solutions.new c 0 ≡ n) }
-{
-    for c in 0..n {
-        solutions[wide(c)] = n;
-    }
-}
-
-// Sets the solutions of t and n: v runs up from 0, and c is the residue of -t v. It ends where c is 0 again: that v is returned,
-// and the solutions for one c are that far apart.
+// Sets the solutions of t and n, at first to n, which stands for none: v runs up from 0, and c is the residue of -t v. It ends where c
+// is 0 again: that v is returned, and the solutions for one c are that far apart.
 fn set_solutions(n: u16, t: u16, solutions: &mut [u16]) -> u16
     requires { ValidModulus n × (n ≤ length solutions.old) }
     ensures { SolutionsSet n t result solutions.new }
 {
-    set_none(n, solutions);
+    let end = usize::from(n);
+    solutions[..end].fill(n);
     solutions[0] = 0;
     let down = negative(t % n, n);
     let mut c = down;
@@ -297,38 +244,37 @@ fn set_solutions(n: u16, t: u16, solutions: &mut [u16]) -> u16
         if c == 0 {
             return v;
         }
-        solutions[wide(c)] = v;
+        solutions[usize::from(c)] = v;
         c = sum_of(c, down, n);
     }
     n
 }
 
 // Gives t a table of solutions behind the first `at` numbers, if some difference ends with component t, and returns how many
-// numbers there are then; SOLUTION_ROOM + 1 where there is no room for it.
+// numbers there are then; None where there is no room for it.
 fn add_table(
     n: u16,
     d: usize,
     t: usize,
     at: usize,
-    bounds: &[u16],
-    solutions: &mut [u16],
-    starts: &mut [usize],
-    steps: &mut [u16],
-) -> usize
-    requires tabulable { Tabulable n d t bounds.now solutions.old starts.old steps.old }
-    requires tables_to { TablesTo n at solutions.old starts.old steps.old }
-    ensures { TablesTo n result solutions.new starts.new steps.new }
+    list: &ListTables,
+    modulus: &mut ModulusTables,
+) -> Option<usize>
+    requires tabulable { Tabulable n d t }
+    requires tables_to { TablesTo n at modulus.old }
+    ensures { MatchOption result (SolutionsOf n modulus.new) (λ most. TablesTo n most modulus.new) }
 {
-    if !occurs(d, t, bounds) {
-        return at;
+    if !occurs(d, t, &list.bounds) {
+        return Some(at);
     }
-    let end = at + wide(n);
+    let end = at + usize::from(n);
     if SOLUTION_ROOM < end {
-        return SOLUTION_ROOM + 1;
+        return None;
     }
-    steps[t] = set_solutions(n, t as u16, &mut solutions[at..end]);
-    starts[t] = at;
-    end
+    // kept: t is below LASTS, and try_from would hand back an error that never comes.
+    modulus.steps[t] = set_solutions(n, t as u16, &mut modulus.solutions[at..end]);
+    modulus.starts[t] = at;
+    Some(end)
 }
 
 // Sets the tables of solutions of n for the last components from 1 to `tail` that some difference has, while there is room.
@@ -337,18 +283,19 @@ pub(crate) fn set_modulus(
     n: u16,
     d: usize,
     tail: usize,
-    bounds: &[u16],
-    solutions: &mut [u16],
-    starts: &mut [usize],
-    steps: &mut [u16],
+    list: &ListTables,
+    modulus: &mut ModulusTables,
 ) -> bool
-    requires { Tabulable n d tail bounds.now solutions.old starts.old steps.old }
-    ensures { SolutionsOf n solutions.new starts.new steps.new }
+    requires { Tabulable n d tail }
+    ensures { SolutionsOf n modulus.new }
 {
-    clear(steps, steps.len());
+    modulus.steps.fill(0);
     let mut at = 0;
     for t in 1..tail + 1 {
-        at = add_table(n, d, t, at, bounds, solutions, starts, steps);
+        let Some(end) = add_table(n, d, t, at, list, modulus) else {
+            return false;
+        };
+        at = end;
     }
-    at <= SOLUTION_ROOM
+    true
 }

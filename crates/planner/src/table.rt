@@ -1,31 +1,43 @@
 // The table of differences, each once: a row is found by an open-addressing hash. That no row stands twice is a matter of speed
 // alone, so no contract says it; what is said is which rows the table has.
 
-ghost use Rattle.std.specs.Prelude.{◌≡◌, true, ◌+◌, ◌≤◌, ◌<◌, length};
+ghost use Rattle.std.specs.Prelude.{◌≡◌, true, ◌≤◌, ◌<◌, length};
+ghost use mathlib.Core.List.{Memᴰ};
 ghost use Rattle.rank1.specs.Differences.{minus};
 ghost use Rattle.planner.specs.Sizes.{largest_size, slot_count};
 ghost use Rattle.planner.specs.Inner.{Covered};
-ghost use Rattle.planner.specs.Table.{Subtractable, Upright, Table, Probed, Added};
+ghost use Rattle.planner.specs.Table.{rows_found, Subtractable, Upright, Storable, Stored, Probed, Added};
 
-use crate::products::{place_of, row_at};
-use crate::rows::{copy_row, end_of};
-use crate::sizes::{ROOM, SLOTS};
-use crate::widths::wide;
+use crate::products::place_of;
+use crate::rows::{end_of, row_at};
+use crate::sizes::{AXES, ROOM, SLOTS};
 
-// s - t.
+// The differences that were found: `count` rows, one behind the other, and whether none was turned away or passed over. A slot is 0, or
+// one more than the number of a row.
+// kept: u16 for a slot, and not an Option, which would double the slots.
+#[derive(Drop)]
+pub(crate) struct Differences {
+    pub(crate) rows: [i16; ROOM * AXES],
+    pub(crate) slots: [u16; SLOTS],
+    pub(crate) count: usize,
+    pub(crate) whole: bool,
+}
+
+// Sets h to s - t.
+// kept: an index into s and t. A zip with iter_mut says nothing of what is written.
 fn set_minus(s: &[i16], t: &[i16], h: &mut [i16])
-    requires { Subtractable s.now t.now h.old }
+    requires { Subtractable (length h.old) s.now t.now }
     ensures { h.new ≡ minus s.now t.now }
 {
-    for j in 0..h.len() {
-        h[j] = s[j] - t[j];
+    for (j, x) in h.iter_mut().enumerate() {
+        *x = s[j] - t[j];
     }
 }
 
 // Sets h to the difference of two rows, or to its negative, with the last component that is not 0 above 0, and returns the axis
 // of that one.
 pub(crate) fn set_difference(s: &[i16], t: &[i16], h: &mut [i16]) -> usize
-    requires { (1 ≤ length h.old) × Subtractable s.now t.now h.old }
+    requires { (1 ≤ length h.old) × Subtractable (length h.old) s.now t.now }
     ensures { Upright s.now t.now h.new result }
 {
     set_minus(s, t, h);
@@ -36,68 +48,71 @@ pub(crate) fn set_difference(s: &[i16], t: &[i16], h: &mut [i16]) -> usize
     j
 }
 
-// Whether two rows are the same.
-fn same_row(row: &[i16], h: &[i16]) -> bool
-    requires { length row.now ≡ length h.now }
-    ensures { result ≡ true → row.now ≡ h.now }
-{
-    for j in 0..row.len() {
-        if row[j] != h[j] {
-            return false;
-        }
-    }
-    true
-}
-
 // The slot at which the search for a row starts.
 fn hash(h: &[i16]) -> usize
     requires { Covered largest_size h.now }
     ensures { result < slot_count }
 {
     let mut x: usize = 0;
-    for j in 0..h.len() {
-        x = (x * 1031 + place_of(h[j])) % SLOTS;
+    for y in h {
+        x = (x * 1031 + place_of(*y)) % SLOTS;
     }
     x
 }
 
-// The first slot from the hash on that is empty or has the row h; SLOTS where there is none.
-pub(crate) fn probe(d: usize, h: &[i16], count: usize, rows: &[i16], slots: &[u16]) -> usize
-    requires h_len { (length h.now ≡ d) × Covered largest_size h.now }
-    requires table { Table d count rows.now slots.now }
-    ensures { Probed d count rows.now slots.now h.now result }
-{
-    let mut p = hash(h);
-    for _ in 0..slots.len() {
-        let o = wide(slots[p]);
-        if o == 0 {
-            return p;
+impl Differences {
+    // The first slot from the hash on that is empty or has the row h, if there is one.
+    fn probe(&self, h: &[i16]) -> Option<usize>
+        requires storable { Storable h.now }
+        requires stored { Stored (length h.now) self.now }
+        ensures { Probed (length h.now) h.now self.now result }
+    {
+        let mut p = hash(h);
+        for _ in 0..SLOTS {
+            let o = usize::from(self.slots[p]);
+            if o == 0 {
+                return Some(p);
+            }
+            if row_at(&self.rows, o - 1, h.len()) == h {
+                return Some(p);
+            }
+            p = (p + 1) % SLOTS;
         }
-        if same_row(row_at(rows, o - 1, d), h) {
-            return p;
-        }
-        p = (p + 1) % SLOTS;
+        None
     }
-    SLOTS
-}
 
-// Adds a row to the table unless it stands there, and returns how many rows there are then; 0 where there is no room for it.
-pub(crate) fn add(d: usize, h: &[i16], count: usize, rows: &mut [i16], slots: &mut [u16]) -> usize
-    requires h_len { (length h.now ≡ d) × Covered largest_size h.now }
-    requires table { Table d count rows.old slots.old × Covered largest_size rows.old }
-    ensures { Added d count h.now rows.old rows.new slots.old slots.new result × Covered largest_size rows.new }
-{
-    let p = probe(d, h, count, rows, slots);
-    if p == SLOTS {
-        return 0;
+    // Adds a row unless it stands there; where there is no room for it, the table is not whole.
+    pub(crate) fn add(&mut self, h: &[i16])
+        requires storable { Storable h.now }
+        requires stored { Stored (length h.now) self.old }
+        ensures kept { Stored (length h.now) self.new }
+        ensures added { Added (length h.now) h.now self.old self.new }
+    {
+        let Some(p) = self.probe(h) else {
+            self.whole = false;
+            return;
+        };
+        if self.slots[p] != 0 {
+            return;
+        }
+        if self.count == ROOM {
+            self.whole = false;
+            return;
+        }
+        let at = self.count * h.len();
+        self.rows[at..at + h.len()].copy_from_slice(h);
+        self.count += 1;
+        self.slots[p] = self.count as u16;
     }
-    if slots[p] != 0 {
-        return count;
+
+    // Whether a row stands in the table.
+    pub(crate) fn stands(&self, h: &[i16]) -> bool
+        requires { Storable h.now × Stored (length h.now) self.now }
+        ensures { result ≡ true → Memᴰ h.now (rows_found (length h.now) self.now) }
+    {
+        match self.probe(h) {
+            Some(p) => self.slots[p] != 0,
+            None => false,
+        }
     }
-    if count == ROOM {
-        return 0;
-    }
-    copy_row(h, rows, count * d);
-    slots[p] = (count + 1) as u16;
-    count + 1
 }

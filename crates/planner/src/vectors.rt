@@ -1,49 +1,28 @@
-// Vectors: copied, their largest component, and which of two is the gentler (document 02, f).
+// Which of two vectors is the gentler (document 02, f), and what the search asks of a vector.
 
 ghost use Rattle.std.specs.Prelude.{◌≡◌, length};
 ghost use Rattle.rank1.specs.Tests.{Decides};
 ghost use Rattle.rank1.specs.Search.{Before, largest, Gentler};
 
-// Copies from into to.
-pub(crate) fn copy(to: &mut [u16], from: &[u16])
-    requires { length to.old ≡ length from.now }
-    ensures { to.new ≡ from.now }
-{
-    for i in 0..to.len() {
-        to[i] = from[i];
-    }
-}
-
 // The largest component, 0 of none.
+// kept: two callers speak of the promise, which is proved once here.
 pub(crate) fn largest_of(z: &[u16]) -> u16
     ensures { result ≡ largest z.now }
 {
-    let mut top = 0;
-    for i in 0..z.len() {
-        if top < z[i] {
-            top = z[i];
-        }
-    }
-    top
+    z.iter().copied().max().unwrap_or(0)
 }
 
-// Whether y comes before z in dictionary order; z has as many components.
+// Whether y comes before z in dictionary order, which is that of slices; z has as many components.
+// kept: that the order of slices is document 02's is proved once here.
 fn comes_before(y: &[u16], z: &[u16]) -> bool
     requires { length y.now ≡ length z.now }
     ensures { Decides result (Before y.now z.now) }
 {
-    for i in 0..y.len() {
-        if y[i] < z[i] {
-            return true;
-        }
-        if z[i] < y[i] {
-            return false;
-        }
-    }
-    false
+    y < z
 }
 
 // Whether y is gentler than z: the largest components are compared first. z has as many components.
+// kept: this is another order than that of slices, and a type of its own for an `Ord` is no plainer.
 pub(crate) fn is_gentler(y: &[u16], z: &[u16]) -> bool
     requires { length y.now ≡ length z.now }
     ensures { Decides result (Gentler y.now z.now) }

@@ -4,13 +4,15 @@ use mathlib.Core.Path.{◌≡◌, refl, sym, ◌∙◌, ap, ap₂, subst}
 use mathlib.Core.Logic.{⊎_elim}
 use mathlib.Core.List.Memᴰ
 use mathlib.Core.List.{List, [], ◌∷◌, ◌++◌, Memᴰ}
-use Prim.Native.Nat.{ℕ, zero, suc, ◌+◌, ◌*◌, ◌<◌, ◌≤◌}
-use native.Mathlib.Nat.{add_comm, zero-mul, suc-mul, mul-le-mul_right}
+use Prim.Native.Nat.{ℕ, zero, suc, ◌+◌, ◌*◌, ◌/◌, ◌<◌, ◌≤◌}
+use native.Mathlib.Nat.{add-div_left, div-eq_of_lt, add_comm, zero-mul, suc-mul, mul-le-mul_right}
+use native.Mathlib.Numerals.{add-one}
 use native.Mathlib.Omega.{arith}
 use lib.IntN.{ℤ}
-use lib.ListN.{length, get_or, take, drop, length-drop, take-append-drop}
-use lib.Seq.{length-take-le, take-append-le, drop-append-le, drop-cons, drop-drop}
-use Rattle.rank1.specs.Index.{rows_of, row_count}
+use lib.ListN.{length, get_or, take, drop, length-append, length-drop, take-append-drop}
+use lib.Seq.{take_at, drop-append_seam, length-take-le, take-append-le, drop-append-le, drop-cons, drop-drop}
+use Rattle.std.proofs.lemmas.Nat.{div-mul-add}
+use Rattle.rank1.specs.Index.{rows_of, row_count, index_list}
 use Rattle.rank1.proofs.Distinct.{member_at, Place, place_of}
 
 -- row i fits in where m rows do
@@ -28,6 +30,23 @@ past d i xs = drop-drop (i * d) d xs ∙ ap (λ (k : ℕ). drop k xs) (add_comm 
 none_past : (d : ℕ) (xs : List ℤ) → drop (0 * d) xs ≡ xs
 none_past d xs = ap (λ (k : ℕ). drop k xs) (zero-mul d)
 
+-- ---- the rows of a run, from the front: the first row and the rows of the rest, or none where less than a row is left
+pub index_cons : (d : ℕ) (xs : List ℤ) → 0 < d → d ≤ length xs → index_list d xs ≡ take d xs ∷ index_list d (drop d xs)
+index_cons d xs some l = ap (λ (m : ℕ). rows_of d m xs) count
+  where
+    count : length xs / d ≡ suc (length (drop d xs) / d)
+    count =
+        let e : length xs ≡ d + length (drop d xs) = omega (arith, length-drop d xs) in
+        ap (λ (k : ℕ). k / d) e ∙ add-div_left (length (drop d xs)) some ∙ add-one (length (drop d xs) / d)
+
+pub index_front : (d : ℕ) (k xs : List ℤ) → 0 < d → length k ≡ d → index_list d (k ++ xs) ≡ k ∷ index_list d xs
+index_front d k xs some e =
+    index_cons d (k ++ xs) some (omega (arith, length-append k xs, e))
+    ∙ ap₂ (λ (r s : List ℤ). r ∷ index_list d s) (take_at k xs d e) (ap (λ (n : ℕ). drop n (k ++ xs)) (sym e) ∙ drop-append_seam k xs)
+
+pub index_short : (d : ℕ) (xs : List ℤ) → length xs < d → index_list d xs ≡ []
+index_short d xs l = ap (λ (m : ℕ). rows_of d m xs) (div-eq_of_lt l)
+
 -- ---- how many, and which
 pub rows-length : (d m : ℕ) (xs : List ℤ) → length (rows_of d m xs) ≡ m
 rows-length d zero xs = refl
@@ -41,6 +60,27 @@ row_at_lem d (suc m) xs (suc i) l = row_at_lem d m (drop d xs) i (omega arith) �
 -- the numbers from place i × d on, d of them
 pub part_length : (d m : ℕ) (xs : List ℤ) (i : ℕ) → i < m → m * d ≤ length xs → length (take d (drop (i * d) xs)) ≡ d
 part_length d m xs i l f = length-take-le d (drop (i * d) xs) (omega (arith, length-drop (i * d) xs, row_fits d m i (length xs) l f))
+
+-- ---- the rows of a run by its chunks: k is the next d numbers of what is left from place i × d on
+module _ (d i : ℕ) (xs k rest : List ℤ) (left : drop (i * d) xs ≡ k ++ rest) (long : length k ≡ d) (within : i * d ≤ length xs) where
+  pub chunk_row : k ≡ take d (drop (i * d) xs)
+  chunk_row = sym (ap (take d) left ∙ take_at k rest d long)
+
+  turn : (i + 1) * d ≡ d + i * d
+  turn = ap (λ (n : ℕ). n * d) (add-one i) ∙ suc-mul i d ∙ add_comm (i * d) d
+
+  pub chunk_rest : rest ≡ drop ((i + 1) * d) xs
+  chunk_rest =
+      sym (ap (λ (n : ℕ). drop n xs) (turn ∙ add_comm d (i * d)) ∙ sym (drop-drop d (i * d) xs) ∙ ap (drop d) left ∙ ap (λ (n : ℕ). drop n (k ++ rest)) (sym long) ∙ drop-append_seam k rest)
+
+  pub chunk_within : (i + 1) * d ≤ length xs
+  chunk_within = omega (arith, turn, ap (length {A = ℤ}) left, length-append k rest, length-drop (i * d) xs)
+
+-- where less than a chunk is left, all rows are passed
+pub chunks_end : (d i : ℕ) (xs : List ℤ) → i * d ≤ length xs → length (drop (i * d) xs) < d → i ≡ row_count d xs
+chunks_end d i xs within short =
+    let e : length xs ≡ i * d + length (drop (i * d) xs) = omega (arith, length-drop (i * d) xs) in
+    sym (ap (λ (n : ℕ). n / d) e ∙ div-mul-add i d (length (drop (i * d) xs)) short)
 
 -- ---- members
 pub row_in : (d m : ℕ) (xs : List ℤ) (i : ℕ) → i < m → Memᴰ (take d (drop (i * d) xs)) (rows_of d m xs)

@@ -18,6 +18,7 @@ pub mod TestLaws
 pub mod RuleTestLaws
 pub mod IndexLaws
 pub mod RefusalLaws
+pub mod NamedLaws
 pub mod ValidLaws
 pub mod UpTo
 pub mod CountLaws

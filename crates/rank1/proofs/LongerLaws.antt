@@ -2,7 +2,7 @@
 use mathlib.Core.Path.{◌≡◌, refl, sym, ◌∙◌, ap, ap₂}
 use mathlib.Core.Bool.{Bool, true, false, ◌||◌}
 use mathlib.Core.List.{List, [], ◌∷◌, ◌++◌}
-use Prim.Native.Nat.{ℕ, suc, ◌+◌, ◌*◌, ◌/◌, ◌%◌, ◌≤◌}
+use Prim.Native.Nat.{ℕ, zero, suc, ◌+◌, ◌*◌, ◌/◌, ◌%◌, ◌≤◌}
 use native.Mathlib.Nat.{add-div_right, add-mod_right, div-add-mod', div-mul-le_self}
 use native.Mathlib.Numerals.{add-one}
 use native.Mathlib.Omega.{arith}
@@ -11,12 +11,12 @@ use lib.ListN.{length, take, drop, length-append}
 use lib.Seq.{take_all, drop_at}
 use Rattle.rank1.specs.Tests.{any, same_row}
 use Rattle.rank1.specs.Index.{rows_of, row_count, index_list}
-use Rattle.rank1.specs.Refusal.{first_of, repeats, bad_axes, bad_row, bad_length, bad_component, equal_rows, longer_conditions}
+use Rattle.rank1.specs.Refusal.{refuse, outside, first_of, repeats, bad_axes, bad_row, bad_length, bad_component, equal_rows, longer_conditions}
 use Rattle.rank1.specs.Valid.{ValidList}
 use Rattle.rank1.proofs.TestLaws.{row_true, row_false, decides_row, decided_is}
 use Rattle.rank1.proofs.IndexLaws.{rows_front, rows_snoc}
 use Rattle.rank1.proofs.RefusalLaws.{first_of_none}
-use Rattle.rank1.proofs.ValidLaws.{row_clear, length_clear, valid_list}
+use Rattle.rank1.proofs.ValidLaws.{axes_clear, row_clear, length_clear, valid_list}
 
 -- ---- the rows
 module _ (d : ℕ) (xs row : List ℤ) (some : 1 ≤ d) (long : length row ≡ d) where
@@ -80,6 +80,41 @@ repeats_longer (l ∷ ks) k =
     turned false true true e = refl
     turned false true false e = refl
     turned false false c e = refl
+
+-- ---- conditions 2 to 5 of the longer list, one after the other: 4 and 5 by the list and then by the row
+-- what follows a condition counts only where it does not apply
+first_tail : (k : ℕ) (ks ls : List ℕ) → (k ≡ 0 → first_of ks ≡ first_of ls) → first_of (k ∷ ks) ≡ first_of (k ∷ ls)
+first_tail zero ks ls h = h refl
+first_tail (suc k) ks ls h = refl
+
+-- one condition of two tests is two with one number
+either_first : (n : ℕ) (a b : Bool) (ks : List ℕ) → first_of (refuse (suc n) (a || b) ∷ ks) ≡ first_of (refuse (suc n) a ∷ refuse (suc n) b ∷ ks)
+either_first n true b ks = refl
+either_first n false b ks = refl
+
+pub longer_parts : (plan d : ℕ) (xs row : List ℤ) → first_of (longer_conditions plan d xs row) ≡ first_of (bad_axes d ∷ bad_row d row ∷ bad_length d (xs ++ row) ∷ bad_component plan xs ∷ bad_component plan row ∷ equal_rows d xs ∷ refuse 5 (any (same_row row) (index_list (length row) xs)) ∷ [])
+longer_parts plan d xs row =
+    first_tail (bad_axes d) (bad_row d row ∷ bad_length d (xs ++ row) ∷ whole) (bad_row d row ∷ bad_length d (xs ++ row) ∷ parts)
+    (λ a. first_tail (bad_row d row) (bad_length d (xs ++ row) ∷ whole) (bad_length d (xs ++ row) ∷ parts)
+    (λ b. first_tail (bad_length d (xs ++ row)) whole parts (λ c. later a b c)))
+  where
+    whole : List ℕ
+    whole = bad_component plan (xs ++ row) ∷ equal_rows d (xs ++ row) ∷ []
+
+    parts : List ℕ
+    parts = bad_component plan xs ∷ bad_component plan row ∷ equal_rows d xs ∷ refuse 5 (any (same_row row) (index_list (length row) xs)) ∷ []
+
+    later : bad_axes d ≡ 0 → bad_row d row ≡ 0 → bad_length d (xs ++ row) ≡ 0 → first_of whole ≡ first_of parts
+    later a b c =
+        let e = lengths_longer d xs row ((axes_clear d).0 a).0 b c in
+        let added = any (same_row row) (index_list (length row) xs) in
+        ap (λ (t : Bool). first_of (refuse 4 t ∷ equal_rows d (xs ++ row) ∷ [])) (any_append (outside plan) xs row)
+        ∙ either_first 3 (any (outside plan) xs) (any (outside plan) row) (equal_rows d (xs ++ row) ∷ [])
+        ∙ first_tail (bad_component plan xs) (bad_component plan row ∷ equal_rows d (xs ++ row) ∷ []) (bad_component plan row ∷ equal_rows d xs ∷ refuse 5 added ∷ [])
+        (λ f. first_tail (bad_component plan row) (equal_rows d (xs ++ row) ∷ []) (equal_rows d xs ∷ refuse 5 added ∷ [])
+        (λ g. ap (λ (ks : List (List ℤ)). first_of (refuse 5 (repeats ks) ∷ [])) e.1
+        ∙ ap (λ (t : Bool). first_of (refuse 5 t ∷ [])) (repeats_longer (index_list d xs) row ∙ ap (λ (k : ℕ). repeats (index_list d xs) || any (same_row row) (index_list k xs)) (sym e.0))
+        ∙ either_first 4 (repeats (index_list d xs)) added []))
 
 -- ---- where conditions 2 to 5 of the longer list do not apply: it is valid, its rows are those of the list and the row, and the list
 -- is one of at most 511 whole rows

@@ -2,7 +2,7 @@
 -- one among others; equal records; a list in which two rows are equal.
 use mathlib.Core.Path.{◌≡◌, refl, sym, ◌∙◌, ap, subst}
 use mathlib.Core.Logic.{◌↔◌, ◌≢◌, ⊎_elim}
-use mathlib.Core.Bool.{Bool, true, false, not, ◌&&◌, ◌||◌}
+use mathlib.Core.Bool.{Bool, true, false, not, ◌&&◌, ◌||◌, beq}
 use mathlib.Core.List.Memᴰ
 use mathlib.Core.List.{List, [], ◌∷◌, Memᴰ}
 use Prim.Native.Nat.{ℕ, suc, ◌<◌}
@@ -10,6 +10,10 @@ use native.Mathlib.Omega.{arith}
 use lib.Dec.{T, eqb, eqb→eq, eqb_refl, T_not, not_T}
 use lib.IntN.{ℤ, pos, negsuc}
 use lib.ListN.{length, get_or}
+use Rattle.std.specs.Cmp.Lexicographic.{pointwise}
+use Rattle.std.specs.Cmp.Rules.{signed_items}
+use Rattle.std.specs.Ordering.{int_eq}
+use Rattle.std.specs.Bool.{one_answer}
 use Rattle.rank1.specs.declared.Tally.{Tally}
 use Rattle.rank1.specs.Tests.{every, any, same_number, same_row}
 use Rattle.rank1.specs.Tally.{same_flag, same_tally}
@@ -131,6 +135,13 @@ module _ {A : Type 0} where
       go true e = tt
       go false e = false_fails (f x) (any_false f xs e x m) t
 
+  -- none passes, by the places
+  pub any_nowhere : (f : A → Bool) (w : A) (xs : List A) → ((k : ℕ) → k < length xs → f (get_or xs k w) ≡ false) → any f xs ≡ false
+  any_nowhere f w xs h = false_any f xs (λ x m. at x (place_of xs x w m))
+    where
+      at : (x : A) → Place xs x w → f x ≡ false
+      at x p = sym (ap f p.is) ∙ h p.index p.inside
+
 -- ---- equal numbers and equal rows
 pub decides_eqb : (a b : ℕ) → T (eqb a b) ↔ (a ≡ b)
 decides_eqb a b = (eqb→eq a b, λ e. subst (λ (c : ℕ). T (eqb a c)) e (eqb_refl a))
@@ -168,6 +179,10 @@ row_true s t = decided_true (same_row s t) (decides_row s t)
 
 pub row_false : (s t : List ℤ) → (same_row s t ≡ false) ↔ (s ≢ t)
 row_false s t = decided_false (same_row s t) (decides_row s t)
+
+-- the library's test for equal slices is the same
+pub slices_same : (s t : List ℤ) → pointwise int_eq s t ≡ same_row s t
+slices_same s t = one_answer (pointwise int_eq s t) (same_row s t) (signed_items s t) ((row_true s t).0, (row_true s t).1)
 
 -- a row is one of a list
 among_yes : (k : List ℤ) (ks : List (List ℤ)) → T (any (same_row k) ks) → Memᴰ k ks
@@ -208,6 +223,16 @@ decides_tally t u = (yes, (λ e. subst (λ (w : Tally). T (same_tally t w)) e sa
         ap (λ (k : ℕ). tally k t.size t.zero) (eqb→eq t.m u.m a.0)
         ∙ ap (λ (k : ℕ). tally u.m k t.zero) (eqb→eq t.size u.size b.0)
         ∙ ap (tally u.m u.size) (flag_yes t.zero u.zero b.1)
+
+-- the derived test for equal records is the same
+flags_same : (a b : Bool) → beq a b ≡ same_flag a b
+flags_same true true = refl
+flags_same true false = refl
+flags_same false true = refl
+flags_same false false = refl
+
+pub tallies_same : (t u : Tally) → (eqb t.m u.m && (eqb t.size u.size && beq t.zero u.zero)) ≡ same_tally t u
+tallies_same t u = ap (λ (b : Bool). eqb t.m u.m && (eqb t.size u.size && b)) (flags_same t.zero u.zero)
 
 -- ---- no two rows are equal
 pub repeats_distinct : (ks : List (List ℤ)) → repeats ks ≡ false → Distinct ks

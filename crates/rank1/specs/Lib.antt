@@ -11,6 +11,7 @@ pub mod Sums
 pub mod Points
 pub mod Tent
 pub mod Tally
+pub mod Named
 pub mod Refusal
 pub mod Valid
 pub mod Corners

@@ -19,7 +19,7 @@ use Rattle.request.specs.Reading.{Parsed, bad, got, read_number, negated, unsign
 use Rattle.request.specs.Printing.{signed_text}
 use Rattle.request.proofs.CondLaws.{within_of, both_true, cond_false}
 use Rattle.request.proofs.NumberLaws.{number_long, number_short, number_some, number_digits, number_read}
-use Rattle.request.proofs.reading.DigitLaws.{digits_front}
+use Rattle.request.proofs.reading.DigitLaws.{digits_front, all_digits}
 
 -- ---- digits are the text of the number that they write
 digit_in : (b : ℕ) → is_digit b ≡ true → (48 ≤ b) × (b ≤ 57)
@@ -87,15 +87,6 @@ field_small s f e =
     ]
 
 -- ---- what is read is a number's text
--- the digits at the front of a text are digits
-pub all_digits : (s : List ℕ) → every is_digit (digits s) ≡ true
-all_digits [] = refl
-all_digits (b ∷ s) = go (is_digit b) refl (all_digits s)
-  where
-    go : (t : Bool) → is_digit b ≡ t → every is_digit (digits s) ≡ true → every is_digit (cond t (b ∷ digits s) []) ≡ true
-    go true e h = rw e h
-    go false e h = refl
-
 -- a field without a sign: the text of its number, and then what is left
 pub number_only : (s : List ℕ) (x : ℕ) (t : List ℕ) → read_number s ≡ got x t → (s ≡ number_text x ++ t) × (x < 1000000)
 number_only s x t e = go (is_field (digits s)) refl e

@@ -6,8 +6,7 @@ use Prim.Native.Nat.{ℕ, ◌≤◌}
 use native.Mathlib.Omega.{arith}
 use lib.ListN.{length, take, drop, length-take}
 use lib.Seq.{take_at}
-use Rattle.request.specs.declared.Reply.{Reply}
-use Rattle.request.specs.declared.Reply.TheVariants.{Written, NoRoom}
+use Rattle.std.proofs.Common.{Option, Some, None}
 use Rattle.request.specs.Answer.{AnswerTo}
 use Rattle.request.specs.Reply.{Stands, AnsweredWith}
 use Rattle.request.proofs.AnswerLaws.{answer_determined}
@@ -33,16 +32,16 @@ whole_determined text before after after' n n' p q =
     (size, p.is ∙ ap (λ (a : List ℕ). a ++ drop n before) same ∙ ap (λ (k : ℕ). q.answer ++ drop k before) size ∙ sym q.is)
 
 -- the same reply and the same bytes (answer)
-pub reply_determined : (text before after after' : List ℕ) (r r' : Reply) → AnsweredWith text before after r → AnsweredWith text before after' r' → (r ≡ r') × (after ≡ after')
-reply_determined text before after after' (Written n) (Written n') p q =
+pub reply_determined : (text before after after' : List ℕ) (r r' : Option ℕ) → AnsweredWith text before after r → AnsweredWith text before after' r' → (r ≡ r') × (after ≡ after')
+reply_determined text before after after' (Some n) (Some n') p q =
     let same = whole_determined text before after after' n n' p q in
-    (ap Written same.0, same.1)
-reply_determined text before after after' (Written n) NoRoom p q =
+    (ap Some same.0, same.1)
+reply_determined text before after after' (Some n) None p q =
     absurd (omega (arith, p.is_size, p.room, q.2, ap length (answer_determined text p.answer q.0 p.answers q.1)))
-reply_determined text before after after' NoRoom (Written n) p q =
+reply_determined text before after after' None (Some n) p q =
     absurd (omega (arith, p.2, q.is_size, q.room, ap length (answer_determined text p.0 q.answer p.1 q.answers)))
-reply_determined text before after after' NoRoom NoRoom p q = (refl, p.4 ∙ sym q.4)
+reply_determined text before after after' None None p q = (refl, p.4 ∙ sym q.4)
 
 -- with room for every answer it is always written
-pub always_written : (text before after : List ℕ) → 8192 ≤ length before → AnsweredWith text before after NoRoom → ⊥
+pub always_written : (text before after : List ℕ) → 8192 ≤ length before → AnsweredWith text before after None → ⊥
 always_written text before after l p = omega (arith, p.2, p.3)

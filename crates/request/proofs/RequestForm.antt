@@ -19,10 +19,11 @@ use Rattle.request.specs.Text.{is_digit, digits, decimal, is_field, number_text}
 use Rattle.request.specs.Reading.{got, read_line, read_number, read_signed, read_rows, refused, request, after_rows, reading}
 use Rattle.request.specs.Printing.{signed_text, line_text, rows_text, request_text, WritableRow, Writable}
 use Rattle.request.proofs.CondLaws.{within_is}
-use Rattle.request.proofs.FieldLaws.{field_text, all_digits, field_small, number_only, signed_only, signed_read}
+use Rattle.request.proofs.FieldLaws.{field_text, field_small, number_only, signed_only, signed_read}
 use Rattle.request.proofs.NumberLaws.{number_front, number_field, number_read}
 use Rattle.request.proofs.PrintingLaws.{text_size, line_reads, number_fields, head_fields, fields_small, rows_read_back, line_only, rows_only}
 use Rattle.request.proofs.RequestLaws.{lines_of, head_in, members_got, rows-members, rows-counted}
+use Rattle.request.proofs.reading.DigitLaws.{all_digits}
 use Rattle.request.proofs.reading.AskedLaws.{reading_long, reading-rest}
 use Rattle.request.proofs.reading.HeadLaws.{head_is}
 

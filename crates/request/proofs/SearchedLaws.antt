@@ -4,10 +4,10 @@ use mathlib.Core.Path.{◌≡◌, refl, sym, ◌∙◌, ap, subst}
 use mathlib.Core.Logic.{inl, inr, ◌≢◌}
 use mathlib.Core.List.{List, [], ◌∷◌, ◌++◌, map}
 use Prim.Native.Nat.{ℕ, zero, suc, ◌*◌, ◌%◌, ◌≤◌}
-use native.Mathlib.Nat.{zero-add, mul-mod_left}
+use native.Mathlib.Nat.{mul-mod_left}
 use native.Mathlib.Omega.{arith}
 use lib.IntN.{ℤ, pos}
-use lib.ListN.{length, drop, length-append, length-drop}
+use lib.ListN.{length, length-append}
 use Rattle.rank1.specs.Index.{row_count, index_list}
 use Rattle.rank1.specs.Rule.{Admissible}
 use Rattle.rank1.specs.Search.{Smallest}
@@ -15,19 +15,18 @@ use Rattle.rank1.specs.Sums.{residue_map}
 use Rattle.rank1.specs.Refusal.{first_of, bad_plan, bad_map_plan, bad_axes, bad_length, bad_component, equal_rows, bad_modulus, bad_places, inadmissible, list_conditions, pair_conditions, table_conditions, search_refusal, map_refusal}
 use Rattle.rank1.proofs.RefusalLaws.{first_of-append, first_of_skip, first_of_none, first_of_none_append}
 use Rattle.rank1.proofs.ValidLaws.{plan_clear, map_plan_clear, axes_clear, length_clear, modulus_clear, pair_none, places_clear, rule_clear}
-use Rattle.planner.specs.declared.Plan.{Plan}
-use Rattle.planner.specs.declared.Plan.TheVariants.{Found, Refused}
-use Rattle.planner.specs.Answer.{ResidueMapCall, refusal_number, SmallestOrNone, SmallestSearch}
+use Rattle.std.specs.Prelude.{Result, Ok, Err}
+use Rattle.rank1.specs.declared.Refusal.{Refusal}
+use Rattle.rank1.specs.Named.{number, refused}
+use Rattle.planner.specs.Answer.{ResidueMapCall, SmallestOrNone, SmallestSearch}
 use Rattle.planner.specs.Answer as planner
 use Rattle.planner.proofs.CallTheorems.{answered_writes}
 use Rattle.request.specs.Text.{number_text}
 use Rattle.request.specs.Reading.{request}
 use Rattle.request.specs.Answer.{refusal_text, vector_text, map_text, plan_text, PlanOrNine, RefusalTextOr, request_refusal, Answers}
-use Rattle.request.specs.Inner.{Wrote, HeadIn}
-use Rattle.request.specs.Reply.{Stands}
+use Rattle.request.specs.Inner.{HeadIn}
 use Rattle.request.proofs.AnswerLaws.{first_line_short}
 use Rattle.request.proofs.RequestLaws.{rows-counted, three_none}
-use Rattle.request.proofs.writing.WroteLaws.{wrote_more}
 
 -- ---- the search's refusals
 module _ (plan d m : ℕ) (xs : List ℤ) (head : HeadIn plan d m) (size : length xs ≡ m * d) where
@@ -60,16 +59,16 @@ module _ (plan d m : ℕ) (xs : List ℤ) (head : HeadIn plan d m) (size : lengt
 -- ---- what the search answers
 module _ (plan d ceiling : ℕ) (ks : List (List ℤ)) (before after : List ℕ) where
   -- a refusal's text answers: its number is that of the condition, or 9 where there is no plan
-  refused_answers : (refusal : ℕ) (r : Plan) (k : ℕ) → r ≡ Refused k → planner.RefusedOr refusal before after r (SmallestOrNone (Admissible plan ks) d ceiling before after r) → RefusalTextOr refusal (refusal_text (refusal_number r)) (PlanOrNine plan d ceiling ks (refusal_text (refusal_number r)))
-  refused_answers refusal (Found n) k e p = absurd (let x : ◌≡◌ {A = ℕ} 0 1 = cc in omega arith)
-  refused_answers zero (Refused j) k e p = inr (p.2, ap refusal_text p.0)
-  refused_answers (suc i) (Refused j) k e p = ap refusal_text (let f = p.0 in cc)
+  refused_answers : (refusal : ℕ) (r : Result ℕ Refusal) (k : Refusal) → r ≡ Err k → planner.RefusedOr refusal before after r (SmallestOrNone (Admissible plan ks) d ceiling before after r) → RefusalTextOr refusal (refusal_text (refused r)) (PlanOrNine plan d ceiling ks (refusal_text (refused r)))
+  refused_answers refusal (Ok n) k e p = absurd (let x : ◌≡◌ {A = ℕ} 0 1 = cc in omega arith)
+  refused_answers zero (Err j) k e p = inr (p.2, ap (λ (k : Refusal). refusal_text (number k)) p.0)
+  refused_answers (suc i) (Err j) k e p = ap refusal_text p.0
 
   -- a plan: no refusal, and it is the smallest
-  found_smallest : (refusal : ℕ) (r : Plan) (n : ℕ) → r ≡ Found n → planner.RefusedOr refusal before after r (SmallestOrNone (Admissible plan ks) d ceiling before after r) → (refusal ≡ 0) × Smallest (Admissible plan ks) d ceiling n after
-  found_smallest zero (Found m) n e p = (refl, subst (λ (k : ℕ). Smallest (Admissible plan ks) d ceiling k after) (let f = e in cc) p)
-  found_smallest (suc i) (Found m) n e p = absurd (let f = p.0 in let x : ◌≡◌ {A = ℕ} 0 1 = cc in omega arith)
-  found_smallest refusal (Refused k) n e p = absurd (let x : ◌≡◌ {A = ℕ} 0 1 = cc in omega arith)
+  found_smallest : (refusal : ℕ) (r : Result ℕ Refusal) (n : ℕ) → r ≡ Ok n → planner.RefusedOr refusal before after r (SmallestOrNone (Admissible plan ks) d ceiling before after r) → (refusal ≡ 0) × Smallest (Admissible plan ks) d ceiling n after
+  found_smallest zero (Ok m) n e p = (refl, subst (λ (k : ℕ). Smallest (Admissible plan ks) d ceiling k after) (let f = e in cc) p)
+  found_smallest (suc i) (Ok m) n e p = absurd (omega (arith, p.0))
+  found_smallest refusal (Err k) n e p = absurd (let x : ◌≡◌ {A = ℕ} 0 1 = cc in omega arith)
 
 -- the plan's text answers
 pub plan_answers : (plan d ceiling : ℕ) (ks : List (List ℤ)) (after : List ℕ) (refusal n : ℕ) (a : List ℕ) → refusal ≡ 0 → Smallest (Admissible plan ks) d ceiling n after → a ≡ plan_text plan n after ks → RefusalTextOr refusal a (PlanOrNine plan d ceiling ks a)
@@ -84,30 +83,20 @@ plan_mapped : (plan n : ℕ) (z : List ℕ) (ks : List (List ℤ)) → plan ≢ 
 plan_mapped zero n z ks h = absurd (h refl)
 plan_mapped (suc p) n z ks h = refl
 
--- ---- what stands in the lent places
--- a text that was written from the first place on stands there
-pub wrote_stands : (Is : List ℕ → Type 0) (a old new : List ℕ) (end : ℕ) → Is a → length new ≡ length old → Wrote a 0 old new end → Stands Is old new end
-wrote_stands Is a old new end h kept w = record {
-  answer = a;
-  answers = h;
-  is_size = w.is_end ∙ zero-add (length a);
-  room = omega (arith, w.is_end, ap length w.is, length-append a (drop end old), length-drop end old);
-  is = w.is;
-}
-
+-- ---- a search for a request
 -- the answer to a request whose rows are given
-abbrev pub StandsFor : ℕ → ℕ → List ℤ → ℕ → List ℕ → List ℕ → ℕ → Type 0
-StandsFor plan d xs ceiling = Stands (Answers (request plan d ceiling xs))
+abbrev pub AnswersFor : ℕ → ℕ → List ℤ → ℕ → List ℕ → Type 0
+AnswersFor plan d xs ceiling = Answers (request plan d ceiling xs)
 
--- a search for a request: what it answered, and what it left in the lent places
-pub record SearchedFor (plan d m : ℕ) (xs : List ℤ) (ceiling : ℕ) (after : List ℕ) (r : Plan) : Type 0 where
+-- what it answered, and what it left in the lent places
+pub record SearchedFor (plan d m : ℕ) (xs : List ℤ) (ceiling : ℕ) (after : List ℕ) (r : Result ℕ Refusal) : Type 0 where
   pub head : HeadIn plan d m
   pub size : length xs ≡ m * d
   pub before : List ℕ
   pub room : length before ≡ d
   pub told : SmallestSearch plan d xs ceiling before after r
 
-module _ {plan d m : ℕ} {xs : List ℤ} {ceiling : ℕ} {after : List ℕ} {r : Plan} (done : SearchedFor plan d m xs ceiling after r) where
+module _ {plan d m : ℕ} {xs : List ℤ} {ceiling : ℕ} {after : List ℕ} {r : Result ℕ Refusal} (done : SearchedFor plan d m xs ceiling after r) where
   -- the refusals that are left
   searched : planner.RefusedOr (request_refusal plan d ceiling xs) done.before after r (SmallestOrNone (Admissible plan (index_list d xs)) d ceiling done.before after r)
   searched =
@@ -115,14 +104,13 @@ module _ {plan d m : ℕ} {xs : List ℤ} {ceiling : ℕ} {after : List ℕ} {r 
       (search_refusal_lem plan d m xs done.head done.size ceiling (length done.before) done.room) done.told
 
   -- a refusal
-  pub refused_stands : (k number : ℕ) (old new : List ℕ) (end : ℕ) → r ≡ Refused k → number ≡ refusal_number r → length new ≡ length old → Wrote (refusal_text number) 0 old new end → StandsFor plan d xs ceiling old new end
-  refused_stands k number old new end e f kept w =
-      wrote_stands (Answers (request plan d ceiling xs)) (refusal_text (refusal_number r)) old new end
-      (refused_answers plan d ceiling (index_list d xs) done.before after (request_refusal plan d ceiling xs) r k e searched) kept
-      (subst (λ (j : ℕ). Wrote (refusal_text j) 0 old new end) f w)
+  pub refused_answered : (k : Refusal) (told : ℕ) (answer : List ℕ) → r ≡ Err k → told ≡ refused r → answer ≡ refusal_text told → AnswersFor plan d xs ceiling answer
+  refused_answered k told answer e f g =
+      subst (AnswersFor plan d xs ceiling) (ap refusal_text (sym f) ∙ sym g)
+      (refused_answers plan d ceiling (index_list d xs) done.before after (request_refusal plan d ceiling xs) r k e searched)
 
   -- a plan was found
-  module _ {n : ℕ} (found : r ≡ Found n) where
+  module _ {n : ℕ} (found : r ≡ Ok n) where
     -- no refusal applies
     none : request_refusal plan d ceiling xs ≡ 0
     none = (found_smallest plan d ceiling (index_list d xs) done.before after (request_refusal plan d ceiling xs) r n found searched).0
@@ -140,24 +128,22 @@ module _ {plan d m : ℕ} {xs : List ℤ} {ceiling : ℕ} {after : List ℕ} {r 
     small = omega (arith, smallest.high, ((modulus_clear ceiling).0 clear.2).1)
 
     -- the plan's text is the answer
-    plan_written : (text old new : List ℕ) (end : ℕ) → text ≡ plan_text plan n after (index_list d xs) → length new ≡ length old → Wrote text 0 old new end → StandsFor plan d xs ceiling old new end
-    plan_written text old new end e =
-        wrote_stands (Answers (request plan d ceiling xs)) text old new end
-        (plan_answers plan d ceiling (index_list d xs) after (request_refusal plan d ceiling xs) n text none smallest e)
+    plan_answered : (answer : List ℕ) → answer ≡ plan_text plan n after (index_list d xs) → AnswersFor plan d xs ceiling answer
+    plan_answered answer e = plan_answers plan d ceiling (index_list d xs) after (request_refusal plan d ceiling xs) n answer none smallest e
 
     -- the first line takes at most 42 bytes
-    pub first_line_end : (old new : List ℕ) (end : ℕ) → Wrote (number_text n ++ vector_text after) 0 old new end → end ≤ 42
-    first_line_end old new end w =
+    pub first_line_end : (line : List ℕ) → line ≡ number_text n ++ vector_text after → length line ≤ 42
+    first_line_end line e =
         omega (
           arith,
-          w.is_end,
+          ap length e,
           length-append (number_text n) (vector_text after),
           first_line_short n d after small done.head.axes.1 smallest.gentlest.ranged.size smallest.gentlest.ranged.below,
         )
 
     -- plan 0: the first line
-    pub plan_stands : (old new : List ℕ) (end : ℕ) → plan ≡ 0 → length new ≡ length old → Wrote (number_text n ++ vector_text after) 0 old new end → StandsFor plan d xs ceiling old new end
-    plan_stands old new end e = plan_written (number_text n ++ vector_text after) old new end (plan_bare plan n after (index_list d xs) e)
+    pub line_answered : (answer : List ℕ) → plan ≡ 0 → answer ≡ number_text n ++ vector_text after → AnswersFor plan d xs ceiling answer
+    line_answered answer e f = plan_answered answer (f ∙ plan_bare plan n after (index_list d xs) e)
 
     -- plans 1 to 4
     module _ (mapped : plan ≢ 0) where
@@ -195,8 +181,10 @@ module _ {plan d m : ℕ} {xs : List ℤ} {ceiling : ℕ} {after : List ℕ} {r 
           answered_writes (map_refusal plan d xs n after (length old)) (residue_map plan n (map pos after) (index_list d xs)) old pairs answer t (t.number ∙ map_none (length old) e)
 
       -- the first line and the map
-      pub map_stands : (pairs old mid new : List ℕ) (p end : ℕ) → pairs ≡ residue_map plan n (map pos after) (index_list d xs) → length new ≡ length old → Wrote (number_text n ++ vector_text after) 0 old mid p → Wrote (map_text pairs) p mid new end → StandsFor plan d xs ceiling old new end
-      map_stands pairs old mid new p end e kept v w =
-          plan_written ((number_text n ++ vector_text after) ++ map_text pairs) old new end
-          (ap (λ (t : List ℕ). (number_text n ++ vector_text after) ++ map_text t) e ∙ plan_mapped plan n after (index_list d xs) mapped) kept
-          (wrote_more (number_text n ++ vector_text after) (map_text pairs) 0 old mid new p end (omega arith) v w)
+      pub map_answered : (pairs line answer : List ℕ) → pairs ≡ residue_map plan n (map pos after) (index_list d xs) → line ≡ number_text n ++ vector_text after → answer ≡ line ++ map_text pairs → AnswersFor plan d xs ceiling answer
+      map_answered pairs line answer e f g =
+          plan_answered answer
+          (g
+          ∙ ap (λ (t : List ℕ). t ++ map_text pairs) f
+          ∙ ap (λ (t : List ℕ). (number_text n ++ vector_text after) ++ map_text t) e
+          ∙ plan_mapped plan n after (index_list d xs) mapped)

@@ -1,3 +1,2 @@
 -- Laws that the proofs of the writing functions cite.
 pub mod WroteLaws
-pub mod TextSteps

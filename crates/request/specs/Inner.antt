@@ -1,15 +1,9 @@
 -- What the private functions say of their answers. No public contract cites this.
-use Rattle.std.specs.Prelude.{◌≡◌, Bool, true, false, cond, List, [], ◌∷◌, ◌++◌, map, ℕ, ◌*◌, ◌+◌, ◌≤◌, ltb, ℤ, pos, nat_abs, neg_ℤ, length, take, drop}
-use Rattle.request.specs.declared.reading.Number as number
-use Rattle.request.specs.declared.reading.Number.TheVariants as numbers
-use Rattle.request.specs.declared.reading.Component as component
-use Rattle.request.specs.declared.reading.Component.TheVariants as components
-use Rattle.request.specs.declared.reading.Next as next
-use Rattle.request.specs.declared.reading.Next.TheVariants as nexts
-use Rattle.request.specs.declared.reading.Line as line
-use Rattle.request.specs.declared.reading.Line.TheVariants as lines
-use Rattle.request.specs.declared.reading.Asked as asked
-use Rattle.request.specs.declared.reading.Asked.TheVariants as askeds
+use Rattle.std.specs.Prelude.{◌≡◌, Bool, true, false, cond, List, [], ◌∷◌, map, ℕ, ◌*◌, ◌+◌, ◌≤◌, ltb, ℤ, pos, nat_abs, neg_ℤ, length, take, Option, Some, None, Result, Ok, Err}
+use Rattle.rank1.specs.declared.Refusal.{Refusal}
+use Rattle.rank1.specs.Named.{number}
+use Rattle.request.specs.declared.reading.Head.{Head}
+use Rattle.request.specs.declared.reading.Request.{Request}
 use Rattle.request.specs.Text.{space, newline}
 use Rattle.request.specs.Reading.{Parsed, bad, got, expect, Reading, refused, request}
 
@@ -27,40 +21,25 @@ abbrev pub before : {A : Type 0} → ℕ → Parsed A → Parsed A
 before b bad = bad
 before b (got a s) = expect b (λ t. got a t) s
 
--- what was parsed is x, and what is left stands from the place `at` on
-pub record Got {A : Type 0} (text : List ℕ) (p : Parsed A) (x : A) (at : ℕ) : Type 0 where
-  pub parsed : p ≡ got x (drop at text)
-  pub inside : at ≤ length text
+-- what was parsed, with f of it in its place
+abbrev pub mapped : {A B : Type 0} → (A → B) → Parsed A → Parsed B
+mapped f bad = bad
+mapped f (got a s) = got (f a) s
 
--- a field without a sign: out of form, or its number and the place behind it
-abbrev pub NumberIs : List ℕ → Parsed ℕ → number.Number → Type 0
-NumberIs text p numbers.Bad = p ≡ bad
-NumberIs text p (numbers.Value v at) = Got text p v at
-
--- a field of a row, whose number is answered clamped
-pub record ComponentGot (text : List ℕ) (p : Parsed ℤ) (v : ℤ) (at : ℕ) : Type 0 where
-  pub value : ℤ
-  pub found : Got text p value at
-  pub is_clamped : v ≡ clamped value
-
-abbrev pub ComponentIs : List ℕ → Parsed ℤ → component.Component → Type 0
-ComponentIs text p components.Bad = p ≡ bad
-ComponentIs text p (components.Value v at) = ComponentGot text p v at
+-- what was taken from the front of a text: a part, and the rest is left; or it is out of form
+abbrev pub Takes : {A : Type 0} → Parsed A → Option A → List ℕ → Type 0
+Takes p None left = p ≡ bad
+Takes p (Some x) left = p ≡ got x left
 
 -- the fields of line 1
-abbrev pub LineIs : List ℕ → Parsed (List ℕ) → line.Line → Type 0
-LineIs text p lines.Bad = p ≡ bad
-LineIs text p (lines.Fields plan d m ceiling at) = Got text p (plan ∷ d ∷ m ∷ ceiling ∷ []) at
+abbrev pub HeadIs : Parsed (List ℕ) → Option Head → List ℕ → Type 0
+HeadIs p None left = p ≡ bad
+HeadIs p (Some head) left = p ≡ got (head.plan ∷ head.d ∷ head.m ∷ head.ceiling ∷ []) left
 
--- numbers of rows, which were written, clamped, behind the first `base` places
-pub record RunGot (text : List ℕ) (p : Parsed (List ℤ)) (base : ℕ) (old new : List ℤ) (at : ℕ) : Type 0 where
-  pub run : List ℤ
-  pub found : Got text p run at
-  pub written : take (base + length run) new ≡ take base old ++ map clamped run
-
-abbrev pub RunIs : List ℕ → Parsed (List ℤ) → ℕ → List ℤ → List ℤ → next.Next → Type 0
-RunIs text p base old new nexts.Bad = p ≡ bad
-RunIs text p base old new (nexts.At at) = RunGot text p base old new at
+-- numbers of rows, which stand clamped in the places
+abbrev pub Fills : Parsed (List ℤ) → Option (Unit {0}) → List ℕ → List ℤ → Type 0
+Fills p None left places = p ≡ bad
+Fills p (Some done) left places = mapped (map clamped) p ≡ got places left
 
 -- line 1 is in range
 pub record HeadIn (plan d m : ℕ) : Type 0 where
@@ -69,19 +48,19 @@ pub record HeadIn (plan d m : ℕ) : Type 0 where
   pub rows : m ≤ 512
 
 -- a request, whose rows stand, clamped, in the first m × d places
-pub record RowsRead (r : Reading) (rows : List ℤ) (plan d m ceiling : ℕ) : Type 0 where
+pub record RowsRead (r : Reading) (rows : List ℤ) (asked : Request) : Type 0 where
   pub run : List ℤ
   pub bound : ℕ
-  pub asks : r ≡ request plan d bound run
-  pub head : HeadIn plan d m
-  pub size : length run ≡ m * d
-  pub taken : take (m * d) rows ≡ map clamped run
-  pub is_ceiling : ceiling ≡ clamped_ceiling bound
+  pub asks : r ≡ request asked.plan asked.d bound run
+  pub head : HeadIn asked.plan asked.d asked.m
+  pub size : length run ≡ asked.m * asked.d
+  pub taken : take (asked.m * asked.d) rows ≡ map clamped run
+  pub is_ceiling : asked.ceiling ≡ clamped_ceiling bound
 
 -- what was asked
-abbrev pub AskedIs : Reading → List ℤ → asked.Asked → Type 0
-AskedIs r rows (askeds.Refused j) = r ≡ refused j
-AskedIs r rows (askeds.Request plan d m ceiling) = RowsRead r rows plan d m ceiling
+abbrev pub AskedIs : Reading → List ℤ → Result Request Refusal → Type 0
+AskedIs r rows (Ok asked) = RowsRead r rows asked
+AskedIs r rows (Err refusal) = r ≡ refused (number refusal)
 
 -- a number with a sign
 abbrev pub signed : Bool → ℕ → ℤ
@@ -91,9 +70,3 @@ signed false x = pos x
 -- the byte behind field j of d
 abbrev pub separator_of : ℕ → ℕ → ℕ
 separator_of j d = cond (ltb (j + 1) d) space newline
-
--- ---- writing
--- the text s was written behind the first `at` places, up to the place `end`; nothing else was changed
-pub record Wrote (s : List ℕ) (at : ℕ) (old new : List ℕ) (end : ℕ) : Type 0 where
-  pub is_end : end ≡ at + length s
-  pub is : new ≡ take at old ++ s ++ drop end old

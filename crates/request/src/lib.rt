@@ -6,14 +6,15 @@
 mod reading;
 mod writing;
 
-ghost use Rattle.std.specs.Prelude.{◌≡◌, ◌*◌, length};
+ghost use Rattle.std.specs.Prelude.{◌≡◌, ◌*◌, [], length};
 ghost use Rattle.request.specs.Reading.{request};
 ghost use Rattle.request.specs.Answer.{Answers, AnswerTo};
 ghost use Rattle.request.specs.Inner.{HeadIn};
 ghost use Rattle.request.specs.Reply.{Stands, AnsweredWith};
 
-use planner::Plan;
-use reading::{Asked, MOST_AXES, MOST_ROWS};
+use rank1::number_of;
+use reading::{MOST_AXES, MOST_ROWS, ROW_PLACES, Request};
+use writing::Writer;
 
 // The most bytes that a request may have.
 pub const TEXT_BYTES: usize = 32768;
@@ -21,63 +22,71 @@ pub const TEXT_BYTES: usize = 32768;
 // The most bytes that an answer has.
 pub const ANSWER_BYTES: usize = 8192;
 
-// What became of an answer: how many bytes were written, or there is not room for them.
-#[derive(Clone, Copy)]
-pub enum Reply {
-    Written(usize),
-    NoRoom,
+// The answer to a text.
+fn write_answer(text: &[u8], writer: &mut Writer)
+    requires { writer.old ≡ [] }
+    ensures { AnswerTo text.now writer.new }
+{
+    let mut rows = [0i16; ROW_PLACES];
+    match reading::read_request(text, &mut rows) {
+        Ok(asked) => answer_request(asked, &rows[..asked.m * asked.d], writer),
+        Err(refusal) => writer.refusal(u8::from(refusal)),
+    }
 }
 
 // The answer to a request whose rows are given.
-fn answer_request(
-    plan: u8,
-    d: usize,
-    m: usize,
-    rows: &[i16],
-    ceiling: u16,
-    buffer: &mut [u8],
-) -> usize
-    requires { HeadIn plan d m × (length rows.now ≡ m * d) × (length buffer.old ≡ 8192) }
-    ensures { Stands (Answers (request plan d ceiling rows.now)) buffer.old buffer.new result }
+fn answer_request(asked: Request, rows: &[i16], writer: &mut Writer)
+    requires { HeadIn asked.plan asked.d asked.m × (length rows.now ≡ asked.m * asked.d) × (writer.old ≡ []) }
+    ensures { Answers (request asked.plan asked.d asked.ceiling rows.now) writer.new }
 {
+    let Request {
+        plan,
+        d,
+        m,
+        ceiling,
+    } = asked;
     let mut z = [0u16; MOST_AXES];
-    let mut pairs = [0u16; 2 * MOST_ROWS];
     let found = planner::search_smallest(plan, d, rows, ceiling, &mut z[..d]);
-    let Plan::Found(n) = found else {
-        return writing::write_refusal(buffer, planner::refusal_of(found));
+    let Ok(n) = found else {
+        return writer.refusal(number_of(&found));
     };
-    let at = writing::write_plan(buffer, n, &z[..d]);
-    if plan == 0 {
-        return at;
+    writer.plan(n, &z[..d]);
+    if plan != 0 {
+        let mut pairs = [0u16; 2 * MOST_ROWS];
+        let size = 2 * m;
+        let _ = planner::residue_map(plan, d, rows, n, &z[..d], &mut pairs[..size]);
+        writer.map(&pairs[..size]);
     }
-    let size = 2 * m;
-    planner::residue_map(plan, d, rows, n, &z[..d], &mut pairs[..size]);
-    writing::write_map(buffer, at, &pairs[..size], m)
 }
 
 // Answers a text in places that have room for every answer, and returns how many bytes it has. Places past it hold what they held.
 pub fn answer_whole(text: &[u8], out: &mut [u8; ANSWER_BYTES]) -> usize
     ensures { Stands (AnswerTo text.now) out.old out.new result }
 {
-    let mut rows = [0i16; MOST_ROWS * MOST_AXES];
-    match reading::read_request(text, &mut rows) {
-        Asked::Refused(number) => writing::write_refusal(out, number),
-        Asked::Request(plan, d, m, ceiling) => {
-            let size = m * d;
-            answer_request(plan, d, m, &rows[..size], ceiling, out)
-        }
-    }
+    let mut writer = Writer {
+        places: [0; ANSWER_BYTES],
+        at: 0,
+    };
+    write_answer(text, &mut writer);
+    let answer = writer.written();
+    out[..answer.len()].copy_from_slice(answer);
+    answer.len()
 }
 
-// Answers a text. Places past the answer hold what they held; where there is not room nothing is written.
-pub fn answer(text: &[u8], out: &mut [u8]) -> Reply
+// Answers a text, and returns how many bytes the answer has. Places past it hold what they held; where there is not room nothing is
+// written.
+pub fn answer(text: &[u8], out: &mut [u8]) -> Option<usize>
     ensures { AnsweredWith text.now out.old out.new result }
 {
-    let mut buffer = [0u8; ANSWER_BYTES];
-    let size = answer_whole(text, &mut buffer);
-    if out.len() < size {
-        return Reply::NoRoom;
+    let mut writer = Writer {
+        places: [0; ANSWER_BYTES],
+        at: 0,
+    };
+    write_answer(text, &mut writer);
+    let answer = writer.written();
+    if out.len() < answer.len() {
+        return None;
     }
-    writing::write_bytes(out, 0, &buffer[..size]);
-    Reply::Written(size)
+    out[..answer.len()].copy_from_slice(answer);
+    Some(answer.len())
 }

@@ -1,131 +1,222 @@
-// Reading a request: fields, lines, the whole text. Places are byte numbers in the text.
+// Reading a request: fields, lines, the whole text. A reader takes what it reads from the front of the text and keeps what is left.
 
-ghost use Rattle.std.specs.Prelude.{◌≡◌, ◌&&◌, ◌+◌, ◌*◌, ◌≤◌, ◌<◌, min, eqb, ltb, length, get_or, take, drop};
-ghost use Rattle.request.specs.Text.{is_digit, digits, decimal};
-ghost use Rattle.request.specs.Reading.{read_number, read_signed, read_line, read_rows, after_rows, head_refusal, reading};
-ghost use Rattle.request.specs.Inner.{before, clamped, clamped_ceiling, signed, separator_of, NumberIs, ComponentIs, LineIs, RunIs, HeadIn, AskedIs};
+ghost use Rattle.std.specs.Prelude.{◌≡◌, ◌*◌, ◌≤◌, ◌<◌, true, None, ℕ, List, length, take_while};
+ghost use Rattle.rank1.specs.Named.{refused};
+ghost use Rattle.rank1.specs.Tests.{every};
+ghost use Rattle.request.specs.Text.{is_digit, decimal};
+ghost use Rattle.request.specs.Reading.{got, expect, read_number, read_signed, read_line, read_rows, after_rows, head_refusal, reading};
+ghost use Rattle.request.specs.Inner.{before, clamped, clamped_ceiling, mapped, signed, separator_of, Takes, HeadIs, Fills, HeadIn, AskedIs};
 
 use crate::TEXT_BYTES;
+use rank1::Refusal;
+use std::marker::Model;
 
-// The most rows and axes that a request may have.
+// The most rows and axes that a request may have, the largest number of a plan, the largest ceiling, and the most digits of a field.
 pub(crate) const MOST_ROWS: usize = 512;
 
 pub(crate) const MOST_AXES: usize = 6;
 
-// A field without a sign and the place behind it.
+const MOST_PLAN: u32 = 4;
+
+const MOST_CEILING: u32 = 8192;
+
+const MOST_DIGITS: usize = 6;
+
+// The places of the rows' numbers.
+pub(crate) const ROW_PLACES: usize = MOST_ROWS * MOST_AXES;
+
+// The fields of line 1.
 #[derive(Clone, Copy)]
-pub enum Number {
-    Value(u32, usize),
-    Bad,
+pub(crate) struct Head {
+    plan: u32,
+    d: u32,
+    m: u32,
+    ceiling: u32,
 }
 
-// A component of a row and the place behind it.
+// A request, whose m rows of d numbers stand in the lent places. kept: the plan as its number, since the calls of `planner` take it so.
 #[derive(Clone, Copy)]
-pub enum Component {
-    Value(i16, usize),
-    Bad,
+pub(crate) struct Request {
+    pub(crate) plan: u8,
+    pub(crate) d: usize,
+    pub(crate) m: usize,
+    pub(crate) ceiling: u16,
 }
 
-// Plan, d, m and N of line 1, and the place behind it.
-#[derive(Clone, Copy)]
-pub enum Line {
-    Fields(u32, u32, u32, u32, usize),
-    Bad,
+// What is left of a text that is read from its front.
+#[derive(Drop)]
+pub(crate) struct Reader<'a> {
+    left: &'a [u8],
 }
 
-// The place behind what was read.
-#[derive(Clone, Copy)]
-pub enum Next {
-    At(usize),
-    Bad,
+impl<'a> Model for Reader<'a> {
+    ghost Value = { List ℕ };
+
+    ghost view = { λ r. r.left.now };
 }
 
-// A request: plan, d, m and the ceiling, whose rows stand in the lent places; or a refusal.
-#[derive(Clone, Copy)]
-pub enum Asked {
-    Request(u8, usize, usize, u16),
-    Refused(u8),
-}
-
-// Whether b is a digit.
-fn is_digit(b: u8) -> bool
-    ensures { result ≡ is_digit b }
+// The whole text.
+#[tactic(auto, unfolding(crate::specs::Reading::reading))]
+pub(crate) fn read_request(text: &[u8], rows: &mut [i16; ROW_PLACES]) -> Result<Request, Refusal>
+    ensures { AskedIs (reading text.now) rows.new result }
 {
-    b'0' <= b && b <= b'9'
-}
-
-// Whether the byte b stands at a place.
-fn stands_at(text: &[u8], at: usize, b: u8) -> bool
-    ensures { result ≡ (ltb at (length text.now) && eqb (get_or text.now at 0) b) }
-{
-    if at < text.len() {
-        return text[at] == b;
+    if TEXT_BYTES < text.len() {
+        return Err(Refusal::Text);
     }
-    false
+    let mut reader = Reader { left: text };
+    let head = reader.head().ok_or(Refusal::Text)?;
+    head.check()?;
+    reader.body(head, rows)
 }
 
-// How many digits stand from a place on, counted up to 7.
-fn digit_count(text: &[u8], at: usize) -> usize
-    requires { at ≤ length text.now }
-    ensures { (result ≡ min 7 (length (digits (drop at text.now)))) × (at + result ≤ length text.now) }
-{
-    let mut count = 0;
-    while count < 7 {
-        if text.len() - at <= count {
-            return count;
+impl Head {
+    // 1, 2, and 3 for m not 0 to 512.
+    fn check(self) -> Result<(), Refusal>
+        ensures { refused result ≡ head_refusal self.plan self.d self.m }
+    {
+        if self.plan > MOST_PLAN {
+            return Err(Refusal::Plan);
         }
-        if !is_digit(text[at + count]) {
-            return count;
+        if self.d < 1 || self.d > MOST_AXES as u32 {
+            return Err(Refusal::Axes);
         }
-        count += 1;
+        if self.m > MOST_ROWS as u32 {
+            return Err(Refusal::Length);
+        }
+        Ok(())
     }
-    count
+}
+
+impl<'a> Reader<'a> {
+    // The byte b; where it does not stand at the front nothing is taken.
+    fn byte(&mut self, b: u8) -> Option<()>
+        ensures taken { Takes (expect b (λ left. got tt left) self.old) result self.new }
+        ensures kept { result ≡ None → self.new ≡ self.old }
+    {
+        let (first, left) = self.left.split_first()?;
+        if *first != b {
+            return None;
+        }
+        self.left = left;
+        Some(())
+    }
+
+    // A field without a sign.
+    fn number(&mut self) -> Option<u32>
+        ensures { Takes (read_number self.old) result self.new }
+    {
+        let count = digit_count(self.left);
+        if count < 1 || MOST_DIGITS < count {
+            return None;
+        }
+        if 1 < count && self.left[0] == b'0' {
+            return None;
+        }
+        let (digits, left) = self.left.split_at(count);
+        self.left = left;
+        Some(value_of(digits))
+    }
+
+    // A field without a sign and the byte b behind it.
+    fn field(&mut self, b: u8) -> Option<u32>
+        ensures { Takes (before b (read_number self.old)) result self.new }
+    {
+        let value = self.number()?;
+        self.byte(b)?;
+        Some(value)
+    }
+
+    // Line 1.
+    fn head(&mut self) -> Option<Head>
+        ensures { HeadIs (read_line read_number 4 self.old) result self.new }
+    {
+        let plan = self.field(b' ')?;
+        let d = self.field(b' ')?;
+        let m = self.field(b' ')?;
+        let ceiling = self.field(b'\n')?;
+        Some(Head {
+            plan,
+            d,
+            m,
+            ceiling,
+        })
+    }
+
+    // A field of a row, clamped, and the byte b behind it.
+    fn component(&mut self, b: u8) -> Option<i16>
+        ensures { Takes (mapped clamped (before b (read_signed self.old))) result self.new }
+    {
+        let negative = self.byte(b'-').is_some();
+        let value = self.field(b)?;
+        if negative && value == 0 {
+            return None;
+        }
+        Some(clamp(value, negative))
+    }
+
+    // A row, whose fields stand, clamped, in the places then.
+    fn row(&mut self, places: &mut [i16]) -> Option<()>
+        requires { 1 ≤ length places.old }
+        ensures { Fills (read_line read_signed (length places.old) self.old) result self.new places.new }
+    {
+        let d = places.len();
+        for (j, place) in places.iter_mut().enumerate() {
+            *place = self.component(separator(j, d))?;
+        }
+        Some(())
+    }
+
+    // m rows, one behind the other.
+    fn rows(&mut self, d: usize, m: usize, places: &mut [i16]) -> Option<()>
+        requires { (1 ≤ d) × (length places.old ≡ m * d) }
+        ensures { Fills (read_rows d m self.old) result self.new places.new }
+    {
+        // kept: tried with `chunks_exact_mut`, under which no invariant can name the places that are lent
+        for i in 0..m {
+            self.row(&mut places[i * d..i * d + d])?;
+        }
+        Some(())
+    }
+
+    // The rows, and nothing after them.
+    fn body(&mut self, head: Head, rows: &mut [i16; ROW_PLACES]) -> Result<Request, Refusal>
+        requires { HeadIn head.plan head.d head.m }
+        ensures { AskedIs (after_rows head.plan head.d head.ceiling (read_rows head.d head.m self.old)) rows.new result }
+    {
+        let d = head.d as usize;
+        let m = head.m as usize;
+        self.rows(d, m, &mut rows[..m * d]).ok_or(Refusal::Text)?;
+        if !self.left.is_empty() {
+            return Err(Refusal::Text);
+        }
+        let plan = head.plan as u8;
+        Ok(Request {
+            plan,
+            d,
+            m,
+            ceiling: clamp_ceiling(head.ceiling),
+        })
+    }
+}
+
+// How many digits stand at the front of a text.
+fn digit_count(text: &[u8]) -> usize
+    ensures { result ≡ length (take_while is_digit text.now) }
+{
+    text.iter().take_while(|b| b.is_ascii_digit()).count()
 }
 
 // The number that a few digits write.
-fn value_at(text: &[u8], at: usize, count: usize) -> u32
-    requires { (count ≤ 6) × (at + count ≤ length text.now) × (count ≤ length (digits (drop at text.now))) }
-    ensures { (result ≡ decimal (take count (drop at text.now))) × (result < 1000000) }
+fn value_of(digits: &[u8]) -> u32
+    requires { (length digits.now ≤ 6) × (every is_digit digits.now ≡ true) }
+    ensures { result ≡ decimal digits.now }
 {
-    let mut value: u32 = 0;
-    for i in 0..count {
-        value = value * 10 + (text[at + i] - b'0') as u32;
+    // kept: tried as a `fold`, whose closure would have to be callable at every value; the bound goes on from digit to digit
+    let mut value = 0;
+    for digit in digits {
+        value = value * 10 + u32::from(*digit - b'0');
     }
     value
-}
-
-// A field without a sign.
-fn read_number(text: &[u8], at: usize) -> Number
-    requires { at ≤ length text.now }
-    ensures { NumberIs text.now (read_number (drop at text.now)) result }
-{
-    let count = digit_count(text, at);
-    if count < 1 {
-        return Number::Bad;
-    }
-    if 6 < count {
-        return Number::Bad;
-    }
-    if 1 < count {
-        if text[at] == b'0' {
-            return Number::Bad;
-        }
-    }
-    Number::Value(value_at(text, at, count), at + count)
-}
-
-// A field without a sign and the byte b behind it.
-fn read_field(text: &[u8], at: usize, b: u8) -> Number
-    requires { at ≤ length text.now }
-    ensures { NumberIs text.now (before b (read_number (drop at text.now))) result }
-{
-    let Number::Value(value, next) = read_number(text, at) else {
-        return Number::Bad;
-    };
-    if stands_at(text, next, b) {
-        return Number::Value(value, next + 1);
-    }
-    Number::Bad
 }
 
 // The byte behind field j of d: a space, or a newline behind the last.
@@ -134,22 +225,6 @@ fn separator(j: usize, d: usize) -> u8
     ensures { result ≡ separator_of j d }
 {
     if j + 1 < d { b' ' } else { b'\n' }
-}
-
-// Line 1.
-fn read_head(text: &[u8]) -> Line
-    ensures { LineIs text.now (read_line read_number 4 text.now) result }
-{
-    let mut fields = [0u32; 4];
-    let mut next = 0;
-    for k in 0..fields.len() {
-        let Number::Value(value, behind) = read_field(text, next, separator(k, 4)) else {
-            return Line::Bad;
-        };
-        fields[k] = value;
-        next = behind;
-    }
-    Line::Fields(fields[0], fields[1], fields[2], fields[3], next)
 }
 
 // A component that is larger than any permitted one as 256.
@@ -163,119 +238,9 @@ fn clamp(value: u32, negative: bool) -> i16
     if negative { -x } else { x }
 }
 
-// A field of a row.
-fn read_component(text: &[u8], at: usize) -> Component
-    requires { at ≤ length text.now }
-    ensures { ComponentIs text.now (read_signed (drop at text.now)) result }
-{
-    if stands_at(text, at, b'-') {
-        let Number::Value(value, next) = read_number(text, at + 1) else {
-            return Component::Bad;
-        };
-        if value == 0 {
-            return Component::Bad;
-        }
-        return Component::Value(clamp(value, true), next);
-    }
-    let Number::Value(value, next) = read_number(text, at) else {
-        return Component::Bad;
-    };
-    Component::Value(clamp(value, false), next)
-}
-
-// A row of d fields, written behind the first base places.
-fn read_row(text: &[u8], at: usize, d: usize, rows: &mut [i16], base: usize) -> Next
-    requires { (at ≤ length text.now) × (1 ≤ d) × (base + d ≤ length rows.old) }
-    ensures { RunIs text.now (read_line read_signed d (drop at text.now)) base rows.old rows.new result }
-{
-    let mut next = at;
-    for j in 0..d {
-        let Component::Value(x, behind) = read_component(text, next) else {
-            return Next::Bad;
-        };
-        if !stands_at(text, behind, separator(j, d)) {
-            return Next::Bad;
-        }
-        rows[base + j] = x;
-        next = behind + 1;
-    }
-    Next::At(next)
-}
-
-// m rows, written from the first place on.
-fn read_rows(text: &[u8], at: usize, d: usize, m: usize, rows: &mut [i16]) -> Next
-    requires { (at ≤ length text.now) × (1 ≤ d) × (d ≤ 6) × (m ≤ 512) × (m * d ≤ length rows.old) }
-    ensures { RunIs text.now (read_rows d m (drop at text.now)) 0 rows.old rows.new result }
-{
-    let mut next = at;
-    for i in 0..m {
-        let Next::At(behind) = read_row(text, next, d, rows, i * d) else {
-            return Next::Bad;
-        };
-        next = behind;
-    }
-    Next::At(next)
-}
-
 // The ceiling, where one above 8192 stands as 8193.
 fn clamp_ceiling(ceiling: u32) -> u16
     ensures { result ≡ clamped_ceiling ceiling }
 {
-    if 8192 < ceiling { 8193 } else { ceiling as u16 }
-}
-
-// The whole text.
-pub(crate) fn read_request(text: &[u8], rows: &mut [i16]) -> Asked
-    requires { length rows.old ≡ 3072 }
-    ensures { AskedIs (reading text.now) rows.new result }
-{
-    if TEXT_BYTES < text.len() {
-        return Asked::Refused(12);
-    }
-    let Line::Fields(plan, d, m, ceiling, at) = read_head(text) else {
-        return Asked::Refused(12);
-    };
-    let refused = head_refusal(plan, d, m);
-    if refused != 0 {
-        return Asked::Refused(refused);
-    }
-    read_body(text, at, plan as u8, d as usize, m as usize, ceiling, rows)
-}
-
-// 1, 2, and 3 for m not 0 to 512.
-fn head_refusal(plan: u32, d: u32, m: u32) -> u8
-    ensures { result ≡ head_refusal plan d m }
-{
-    if 4 < plan {
-        return 1;
-    }
-    if d < 1 {
-        return 2;
-    }
-    if 6 < d {
-        return 2;
-    }
-    if 512 < m { 3 } else { 0 }
-}
-
-// The rows, and nothing after them.
-fn read_body(
-    text: &[u8],
-    at: usize,
-    plan: u8,
-    d: usize,
-    m: usize,
-    ceiling: u32,
-    rows: &mut [i16],
-) -> Asked
-    requires { (at ≤ length text.now) × HeadIn plan d m × (length rows.old ≡ 3072) }
-    ensures { AskedIs (after_rows plan d ceiling (read_rows d m (drop at text.now))) rows.new result }
-{
-    let Next::At(next) = read_rows(text, at, d, m, rows) else {
-        return Asked::Refused(12);
-    };
-    if next < text.len() {
-        return Asked::Refused(12);
-    }
-    Asked::Request(plan, d, m, clamp_ceiling(ceiling))
+    ceiling.min(MOST_CEILING + 1) as u16
 }

@@ -1,88 +1,112 @@
-// Writing an answer: numbers, a refusal, a plan. Each function writes behind the first `at` places and returns the place behind.
+// Writing an answer: numbers, a refusal, a plan, a map. Each method writes behind what stands in the writer.
 
-ghost use Rattle.std.specs.Prelude.{◌≡◌, ◌∷◌, [], ◌++◌, ◌+◌, ◌*◌, ◌≤◌, ◌<◌, length};
+ghost use Rattle.std.specs.Prelude.{◌≡◌, ◌∷◌, [], ◌++◌, ◌+◌, ◌*◌, ◌≤◌, ◌<◌, ℕ, List, length, take};
+ghost use Rattle.request.specs.declared.TheConstants.{ANSWER_BYTES};
 ghost use Rattle.request.specs.Text.{number_text};
 ghost use Rattle.request.specs.Answer.{refusal_text, vector_text, map_text};
-ghost use Rattle.request.specs.Inner.{Wrote};
 
-// A number, digit by digit: those before the last one first.
-fn write_number(out: &mut [u8], at: usize, x: u16) -> usize
-    requires { at + 5 ≤ length out.old }
-    ensures { Wrote (number_text x) at out.old out.new result }
-{
-    if x < 10 {
-        out[at] = b'0' + x as u8;
-        return at + 1;
+use crate::ANSWER_BYTES;
+use std::marker::Model;
+
+// An answer while it is written: it stands in the first `at` of places that have room for every answer.
+#[derive(Drop)]
+pub(crate) struct Writer {
+    pub(crate) places: [u8; ANSWER_BYTES],
+    pub(crate) at: usize,
+}
+
+impl Model for Writer {
+    ghost Value = { List ℕ };
+
+    ghost view = { λ w. take w.at w.places };
+
+    ghost invariant = { λ w. w.at ≤ ANSWER_BYTES };
+}
+
+impl Writer {
+    // What stands in it.
+    pub(crate) fn written(&self) -> &[u8]
+        ensures { result.now ≡ self.now }
+    {
+        &self.places[..self.at]
     }
-    let next = write_number(out, at, x / 10);
-    out[next] = b'0' + (x % 10) as u8;
-    next + 1
-}
 
-// One byte.
-fn write_byte(out: &mut [u8], at: usize, b: u8) -> usize
-    requires { at < length out.old }
-    ensures { Wrote (b ∷ []) at out.old out.new result }
-{
-    out[at] = b;
-    at + 1
-}
-
-// Some bytes.
-pub(crate) fn write_bytes(out: &mut [u8], at: usize, bytes: &[u8]) -> usize
-    requires { at + length bytes.now ≤ length out.old }
-    ensures { Wrote bytes.now at out.old out.new result }
-{
-    for i in 0..bytes.len() {
-        out[at + i] = bytes[i];
+    // A refusal.
+    pub(crate) fn refusal(&mut self, number: u8)
+        requires { length self.old + 14 ≤ ANSWER_BYTES }
+        ensures { self.new ≡ self.old ++ refusal_text number }
+    {
+        self.bytes(b"refused ");
+        self.number(u16::from(number));
+        self.byte(b'\n');
     }
-    at + bytes.len()
-}
 
-// A refusal, from the first place on.
-pub(crate) fn write_refusal(out: &mut [u8], number: u8) -> usize
-    requires { 14 ≤ length out.old }
-    ensures { Wrote (refusal_text number) 0 out.old out.new result }
-{
-    let word = b"refused ";
-    let at = write_bytes(out, 0, word);
-    let next = write_number(out, at, number as u16);
-    write_byte(out, next, b'\n')
-}
-
-// The components of z, a space before each, and the line's end.
-pub(crate) fn write_vector(out: &mut [u8], at: usize, z: &[u16]) -> usize
-    requires { at + 6 * length z.now + 1 ≤ length out.old }
-    ensures { Wrote (vector_text z.now) at out.old out.new result }
-{
-    let mut next = at;
-    for j in 0..z.len() {
-        next = write_byte(out, next, b' ');
-        next = write_number(out, next, z[j]);
+    // A plan's first line.
+    pub(crate) fn plan(&mut self, n: u16, z: &[u16])
+        requires { length self.old + 6 * length z.now + 6 ≤ ANSWER_BYTES }
+        ensures { self.new ≡ self.old ++ number_text n ++ vector_text z.now }
+    {
+        self.number(n);
+        self.vector(z);
     }
-    write_byte(out, next, b'\n')
-}
 
-// The map, a line for each pair of a residue and its c.
-pub(crate) fn write_map(out: &mut [u8], at: usize, pairs: &[u16], m: usize) -> usize
-    requires { (length pairs.now ≡ 2 * m) × (at + 12 * m ≤ length out.old) }
-    ensures { Wrote (map_text pairs.now) at out.old out.new result }
-{
-    let mut next = at;
-    for i in 0..m {
-        next = write_number(out, next, pairs[2 * i]);
-        next = write_byte(out, next, b' ');
-        next = write_number(out, next, pairs[2 * i + 1]);
-        next = write_byte(out, next, b'\n');
+    // The map, a line for each pair of a residue and its c.
+    pub(crate) fn map(&mut self, pairs: &[u16])
+        requires { length self.old + 6 * length pairs.now ≤ ANSWER_BYTES }
+        ensures { self.new ≡ self.old ++ map_text pairs.now }
+    {
+        let mut rest = pairs;
+        while let [residue, count, others @ ..] = rest {
+            self.number(*residue);
+            self.byte(b' ');
+            self.number(*count);
+            self.byte(b'\n');
+            rest = others;
+        }
     }
-    next
-}
 
-// A plan's first line.
-pub(crate) fn write_plan(out: &mut [u8], n: u16, z: &[u16]) -> usize
-    requires { 6 + 6 * length z.now ≤ length out.old }
-    ensures { Wrote (number_text n ++ vector_text z.now) 0 out.old out.new result }
-{
-    let at = write_number(out, 0, n);
-    write_vector(out, at, z)
+    // The components of z, a space before each, and the line's end.
+    fn vector(&mut self, z: &[u16])
+        requires { length self.old + 6 * length z.now + 1 ≤ ANSWER_BYTES }
+        ensures { self.new ≡ self.old ++ vector_text z.now }
+    {
+        for x in z {
+            self.byte(b' ');
+            self.number(*x);
+        }
+        self.byte(b'\n');
+    }
+
+    // A number, digit by digit: those before the last one first.
+    fn number(&mut self, x: u16)
+        requires { length self.old + 5 ≤ ANSWER_BYTES }
+        ensures text { self.new ≡ self.old ++ number_text x }
+        ensures short { length self.new ≤ length self.old + 5 }
+    {
+        if x < 10 {
+            self.byte(b'0' + x as u8);
+            return;
+        }
+        self.number(x / 10);
+        self.byte(b'0' + (x % 10) as u8);
+    }
+
+    // Some bytes.
+    fn bytes(&mut self, bytes: &[u8])
+        requires { length self.old + length bytes.now ≤ ANSWER_BYTES }
+        ensures { self.new ≡ self.old ++ bytes.now }
+    {
+        let end = self.at + bytes.len();
+        self.places[self.at..end].copy_from_slice(bytes);
+        self.at = end;
+    }
+
+    // One byte.
+    fn byte(&mut self, b: u8)
+        requires { length self.old < ANSWER_BYTES }
+        ensures { self.new ≡ self.old ++ b ∷ [] }
+    {
+        self.places[self.at] = b;
+        self.at += 1;
+    }
 }

@@ -3,17 +3,12 @@
 // tests/requests.py and stored beside this folder.
 #![tactic(auto)]
 
-ghost use Rattle.std.specs.Prelude.{◌≡◌};
-
 use input::read_full;
 use request::ANSWER_BYTES;
 use std::io;
 
-fn wide(x: u8) -> usize
-    ensures { result ≡ x }
-{
-    x as usize
-}
+// The places of a request: one that has as many bytes ends the input.
+const PLACES: usize = 2048;
 
 // Writes the answer to a request.
 fn write_answer(rt: &impl Print, text: &[u8]) -> io::Result<()> {
@@ -31,16 +26,14 @@ fn answer_text(rt: &(impl Input + Print), text: &mut [u8]) -> io::Result<()> {
 // Reads one request and writes its answer. False at the end of the input.
 fn answer_next(rt: &(impl Input + Print)) -> io::Result<bool> {
     let mut head = [0u8; 2];
-    let mut text = [0u8; 2048];
+    let mut text = [0u8; PLACES];
     if read_full(rt, &mut head)? < 2 {
         return Ok(false);
     }
-    let low = wide(head[0]);
-    let high = wide(head[1]);
-    if 7 < high {
+    let size = usize::from(u16::from_le_bytes(head));
+    if PLACES <= size {
         return Ok(false);
     }
-    let size = low % 256 + 256 * high;
     answer_text(rt, &mut text[..size])?;
     Ok(true)
 }

@@ -30,11 +30,6 @@ cleared zero (x ∷ k) = pos 0 ∷ cleared zero k
 cleared (suc j) (x ∷ k) = x ∷ cleared j k
 
 -- ---- from one to the other by one store
-pub cleared-length : (j : ℕ) (k : List ℤ) → length (cleared j k) ≡ length k
-cleared-length j [] = refl
-cleared-length zero (x ∷ k) = ap suc (cleared-length zero k)
-cleared-length (suc j) (x ∷ k) = ap suc (cleared-length j k)
-
 pub cleared_none : (k : List ℤ) → cleared (length k) k ≡ k
 cleared_none [] = refl
 cleared_none (x ∷ k) = ap (λ (r : List ℤ). x ∷ r) (cleared_none k)

@@ -1,29 +1,26 @@
--- The tests of one component in the code, in the terms of the definitions.
-use mathlib.Core.Path.{◌≡◌, refl}
-use mathlib.Core.Bool.{true, false}
+-- A component from 0 to 255, and one more than it, have 16 bits; so what is stored for it is one more.
+use mathlib.Core.Path.{◌≡◌, ◌∙◌, ap}
 use Prim.Native.Nat.{◌+◌}
 use native.Mathlib.Omega.{arith}
 use borrow.Author.Rules.{sfits_of}
-use borrow.Author.Tests.{ltb-true}
 use lib.Dec.{T, leb→le}
 use lib.IntN.{ℤ, pos, negsuc, ◌+ℤ◌}
-use lib.Signed.{lt_z, le_z}
 use mir.Syntax.{w16}
-use mir.Val.{SFits}
+use mir.Val.{SFits, to_z, of_z}
+use mir.Facts.{to_z-of_z}
 use Rattle.rank1.specs.Corners.{from_zero}
-use Rattle.rank1.proofs.TestLaws.{false_fails}
+use Rattle.lists.specs.Inner.{up}
 
--- x is negative, and x is not
-pub from_zero_not : (x y : ℤ) → lt_z x (pos 0) ≡ true → false ≡ from_zero x y
-from_zero_not (pos a) y e = absurd (omega (arith, ltb-true a 0 e))
-from_zero_not (negsuc a) y e = refl
+small_fits : (x : ℤ) → T (from_zero x (pos 255)) → SFits w16 x
+small_fits (pos a) t = sfits_of {w = w16} {z = pos a} (omega (arith, leb→le a 255 t))
+small_fits (negsuc a) t = absurd t
 
-pub from_zero_is : (x y : ℤ) → lt_z x (pos 0) ≡ false → le_z x y ≡ from_zero x y
-from_zero_is (pos a) (pos b) e = refl
-from_zero_is (pos a) (negsuc b) e = refl
-from_zero_is (negsuc a) y e = absurd (false_fails true e tt)
+pub up_fits : (x : ℤ) → T (from_zero x (pos 255)) → SFits w16 (to_z w16 (of_z w16 x) +ℤ pos 1)
+up_fits x t = rw (to_z-of_z (small_fits x t)) (fits x t)
+  where
+    fits : (y : ℤ) → T (from_zero y (pos 255)) → SFits w16 (y +ℤ pos 1)
+    fits (pos a) u = sfits_of {w = w16} {z = pos (a + 1)} (omega (arith, leb→le a 255 u))
+    fits (negsuc a) u = absurd u
 
--- one more than a component from 0 to 255 has 16 bits
-pub up_fits : (x : ℤ) → T (from_zero x (pos 255)) → SFits w16 (x +ℤ pos 1)
-up_fits (pos a) t = sfits_of {w = w16} {z = pos (a + 1)} (omega (arith, leb→le a 255 t))
-up_fits (negsuc a) t = absurd t
+pub up_stored : (x : ℤ) → T (from_zero x (pos 255)) → to_z w16 (of_z w16 (to_z w16 (of_z w16 x) +ℤ pos 1)) ≡ up x
+up_stored x t = to_z-of_z (up_fits x t) ∙ ap (λ (y : ℤ). y +ℤ pos 1) (to_z-of_z (small_fits x t))

@@ -3,21 +3,18 @@ use mathlib.Core.Path.{◌≡◌, refl, sym, ap, ◌∙◌, subst}
 use mathlib.Core.Logic.{◌≢◌}
 use mathlib.Core.Bool.{Bool, true, false, cond}
 use mathlib.Core.List.{List, Memᴰ}
-use Prim.Native.Nat.{ℕ, ◌+◌, ◌*◌, ◌<◌, ◌≤◌}
+use Prim.Native.Nat.{ℕ, zero, suc, ◌*◌, ◌<◌}
 use native.Mathlib.Decide.{ℕ_discrete}
 use native.Mathlib.Omega.{arith}
 use borrow.Author.Tests.{eq-eqb, ne_eqb}
 use lib.Dec.{eqb}
 use lib.IntN.{ℤ, pos}
-use lib.ListN.{length, get_or, take, drop, set, length-set}
-use lib.Seq.{get_or-set_same, get_or-set_other}
-use mir.Val.{bool_byte}
+use lib.ListN.{length, get_or, take, drop, replicate}
 use Rattle.rank1.specs.Index.{rows_of}
 use Rattle.rank1.specs.Axes.{swap, Interchangeable}
 use Rattle.rank1.proofs.IndexLaws.{RowPlace, row_in, row_out}
 use Rattle.rank1.proofs.SwapLaws.{swap_is}
-use Rattle.planner.specs.Sizes.{axes}
-use Rattle.planner.specs.Exchange.{other_axis, Swaps}
+use Rattle.planner.specs.Exchange.{other_axis}
 
 -- ---- a row that is another with components i and j exchanged
 -- the axis that stands at i, at j, and at each other axis
@@ -71,38 +68,8 @@ rows-interchange d m i j xs h k listed = go (row_out d m xs k listed)
     go p = subst (λ (r : List ℤ). Memᴰ (swap i j r) (rows_of d m xs)) (sym p.is) (h p.index p.inside)
 
 -- ---- the marks
--- a mark that is not 0 was set by a test that held
-pub mark_true : (b : Bool) → (bool_byte b ≡ 0 → ⊥) → b ≡ true
-mark_true true h = refl
-mark_true false h = absurd (h refl)
-
--- none yet
-pub swaps_blank : (d : ℕ) (ks : List (List ℤ)) (swaps : List ℕ) → length swaps ≡ axes * axes → ((i : ℕ) → get_or swaps i 0 ≡ 0) → Swaps d ks swaps
-swaps_blank d ks swaps e h = record { size = e; known = λ i j l m marked. absurd (marked (h (i * axes + j))) }
-
--- one more: each pair of axes has a place of its own
-pub swaps-more :
-    (d i j v : ℕ) (ks : List (List ℤ)) (swaps : List ℕ) → d ≤ axes → i < j → j < d → ((v ≡ 0 → ⊥) → Interchangeable i j ks) → Swaps d ks swaps
-    → Swaps d ks (set swaps (i * axes + j) v)
-swaps-more d i j v ks swaps few l h closed s = record {
-  size = length-set swaps (i * axes + j) v ∙ s.size;
-  known = λ a b k o marked. go a b k o marked (ℕ_discrete a i) (ℕ_discrete b j);
-}
-  where
-    place : ℕ
-    place = i * axes + j
-
-    -- at another place
-    other : (a b : ℕ) → a < b → b < d → (get_or (set swaps place v) (a * axes + b) 0 ≡ 0 → ⊥) → a * axes + b ≢ place → Interchangeable a b ks
-    other a b k o marked p = s.known a b k o (λ e. marked (get_or-set_other swaps place (a * axes + b) v 0 p ∙ e))
-
-    go : (a b : ℕ) → a < b → b < d → (get_or (set swaps place v) (a * axes + b) 0 ≡ 0 → ⊥) → Dec (a ≡ i) → Dec (b ≡ j) → Interchangeable a b ks
-    go a b k o marked (yes p) (yes q) =
-        subst (λ (x : ℕ). Interchangeable x b ks) (sym p)
-        (subst (λ (x : ℕ). Interchangeable i x ks) (sym q)
-        (closed (λ e. marked (ap (λ (x : ℕ). get_or (set swaps place v) x 0) here ∙ get_or-set_same swaps place v 0 (omega (arith, s.size)) ∙ e))))
-      where
-        here : a * axes + b ≡ place
-        here = omega arith
-    go a b k o marked (yes p) (no q) = other a b k o marked (λ e. q (omega arith))
-    go a b k o marked (no p) r = other a b k o marked (λ e. p (omega arith))
+-- an array of unset marks
+pub unmarked : (n i : ℕ) → get_or (replicate n false) i false ≡ false
+unmarked zero i = refl
+unmarked (suc n) zero = refl
+unmarked (suc n) (suc i) = unmarked n i

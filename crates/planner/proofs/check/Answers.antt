@@ -1,35 +1,24 @@
--- `check` meets its contract: the number of the first condition that applies, and where none does the test of the rule, by what a
--- verdict says of the two (`verdict_refused`, `verdict_yes`, `verdict_no`).
-use mathlib.Core.Path.{sym, ◌∙◌}
-use mathlib.Core.List.{map}
-use lib.IntN.{pos}
-use Rattle.rank1.specs.Index.{index_list}
-use Rattle.rank1.specs.RuleTest.{admissible}
-use Rattle.rank1.specs.Refusal.{check_refusal}
-use Rattle.planner.specs.Answer.{check_answer}
-use Rattle.planner.proofs.CallLaws.{valid_check, verdict_yes, verdict_no, verdict_refused}
+-- `check` meets its contract: where nothing is refused the arguments are valid (`valid_check`), and the test of the rule answers.
+use mathlib.Core.Path.{sym}
+use borrow.Author.Rules.{rules}
+use Rattle.planner.specs.Answer.{CheckCall}
+use Rattle.planner.proofs.CallLaws.{given_valid, valid_check}
 use Rattle.planner.proofs.check.Goals as goal
 
-pub returns-then-refused-ne0 : goal.returns-then-refused-ne0
-unfolding check_answer
-returns-then-refused-ne0 c =
-    let s = c.args in
-    let t = c.check_refusal-refused in
-    sym ((verdict_refused (check_refusal s.plan s.d s.rows.now s.n s.z.now) t.result (admissible s.plan (index_list s.d s.rows.now) s.n (map pos s.z.now))).1 (sym t.ensures, c.if-refused-ne0.true))
+pub returns-in_err-rows : goal.returns-in_err-rows
+unfolding CheckCall
+returns-in_err-rows c = search rules
 
 pub admits-requires : goal.admits-requires
 admits-requires c =
     let s = c.args in
-    valid_check s.plan s.d s.rows.now s.n s.z.now (sym c.check_refusal-refused.ensures ∙ c.if-refused-ne0.false)
+    given_valid c.in_ok-rows.ensures.given (valid_check s.plan s.d s.rows.now s.n s.z.now (sym c.in_ok-rows.ensures.number))
 
-pub returns-then-admits : goal.returns-then-admits
-unfolding check_answer
-returns-then-admits c =
-    let s = c.args in
-    sym ((verdict_yes (check_refusal s.plan s.d s.rows.now s.n s.z.now) (admissible s.plan (index_list s.d s.rows.now) s.n (map pos s.z.now))).1 (sym c.check_refusal-refused.ensures ∙ c.if-refused-ne0.false, sym c.admits.ensures ∙ c.if-admits.true))
-
-pub returns-else-admits : goal.returns-else-admits
-unfolding check_answer
-returns-else-admits c =
-    let s = c.args in
-    sym ((verdict_no (check_refusal s.plan s.d s.rows.now s.n s.z.now) (admissible s.plan (index_list s.d s.rows.now) s.n (map pos s.z.now))).1 (sym c.check_refusal-refused.ensures ∙ c.if-refused-ne0.false, sym c.admits.ensures ∙ c.if-admits.false))
+pub returns : goal.returns
+unfolding CheckCall
+returns c =
+    let g = c.in_ok-rows.ensures.given in
+    let named = rw g.plans at c.admits.ensures in
+    let counted = rw g.axes at named in
+    let told = rw g.numbers at counted in
+    (sym c.in_ok-rows.ensures.number, told)

@@ -19,13 +19,14 @@ use Rattle.rank1.specs.Valid.{ValidList}
 use Rattle.rank1.specs.Differences.{minus, negative, Has, Avoided, Complete}
 use Rattle.rank1.proofs.Distinct.{member_at, Place, place_of, distinct_at}
 use Rattle.rank1.proofs.Order.{compared}
-use Rattle.rank1.proofs.IndexLaws.{rows-length, row_at_lem, row_in, part_length, member_length}
-use Rattle.rank1.proofs.MirrorLaws.{sizes, sizes_at, mirror-sizes, Mirror, mirror_self, mirrored_in, mirrored-out, same_row_lem}
+use Rattle.rank1.proofs.IndexLaws.{rows-length, row_at_lem, row_in, member_length}
+use Rattle.rank1.proofs.MirrorLaws.{sizes, same_length, sizes_at, mirror-sizes, Mirror, mirror_self, mirrored_in, mirrored-out, same_row_lem}
 use Rattle.rank1.proofs.SumLaws.{under_self}
 use Rattle.rank1.proofs.DifferenceLaws.{minus-swap, minus-zeros, negative-negative, difference_avoided, negative_avoided}
 use Rattle.planner.specs.Sizes.{axes, most_members, largest_component}
 use Rattle.planner.specs.Inner.{Covered, row_at}
-use Rattle.planner.specs.Members.{Members, MemberAt, AllMembers}
+use Rattle.planner.specs.Members.{Kin, MemberAt, AllMembers}
+use Rattle.planner.specs.declared.members.Members.{Members}
 use Rattle.planner.specs.Table.{Turns, MetPairs, PlanPairs, EitherSign, Made, Grown, RowRun, Pairable}
 use Rattle.planner.proofs.products.ProductLaws.{covered_take, covered_drop}
 
@@ -43,14 +44,6 @@ row_covered : (plan d i : ℕ) (rows : List ℤ) → ValidList plan d rows → C
 row_covered plan d i rows v =
     covered_take largest_component d (drop (i * d) rows)
     (covered_drop largest_component (i * d) rows (record { narrow = omega arith; covered = v.small }))
-
--- the rows of a list
-pub run-rows : (plan d : ℕ) (rows : List ℤ) → ValidList plan d rows → RowRun d (row_count d rows) rows
-run-rows plan d rows v = record {
-  few = omega (arith, v.few_rows);
-  inside = omega (arith, v.whole);
-  small = λ i l. row_covered plan d i rows v;
-}
 
 -- the row of zeros alone
 zero_row_lem : (d : ℕ) → row_at d (zero_row d) 0 ≡ zero_row d
@@ -77,56 +70,58 @@ run-zeros d = record {
     zeros (suc d) (suc i) = zeros d i
 
 -- ---- members
-module _ (plan d count : ℕ) (rows members : List ℤ) (owners : List ℕ) (v : ValidList plan d rows) (kin : Members plan d count (index_list d rows) members owners) where
+module _ (plan d : ℕ) (rows : List ℤ) (members : Members) (v : ValidList plan d rows) (kin : Kin plan d (index_list d rows) members) where
   -- the row that owns member e
   abbrev owner_of : ℕ → List ℤ
-  owner_of e = get_or (index_list d rows) (get_or owners e 0) []
+  owner_of e = get_or (index_list d rows) (get_or members.owners e 0) []
 
-  owner_listed : (e : ℕ) → e < count → Memᴰ (owner_of e) (index_list d rows)
-  owner_listed e l = member_at (index_list d rows) [] (get_or owners e 0) (kin.kin e l).0
+  owner_listed : (e : ℕ) → e < members.count → Memᴰ (owner_of e) (index_list d rows)
+  owner_listed e l = member_at (index_list d rows) [] (get_or members.owners e 0) (kin.kin e l).0
 
-  related : (e : ℕ) → e < count → Memᴰ (row_at d members e) (mirrors_under plan (owner_of e))
-  related e l = Memᴰ.cast (sym (row_at_lem d count members e l)) (kin.kin e l).1
+  related : (e : ℕ) → e < members.count → Memᴰ (row_at d members.rows e) (mirrors_under plan (owner_of e))
+  related e l = Memᴰ.cast (sym (row_at_lem d members.count members.rows e l)) (kin.kin e l).1
 
   -- its components are those of an index row
-  owner_covered : (e : ℕ) → e < count → Covered largest_component (owner_of e)
+  owner_covered : (e : ℕ) → e < members.count → Covered largest_component (owner_of e)
   owner_covered e l =
       subst (Covered largest_component)
-      (sym (row_at_lem d (row_count d rows) rows (get_or owners e 0) (omega (arith, (kin.kin e l).0, rows-length d (row_count d rows) rows))))
-      (row_covered plan d (get_or owners e 0) rows v)
+      (sym (row_at_lem d (row_count d rows) rows (get_or members.owners e 0) (omega (arith, (kin.kin e l).0, rows-length d (row_count d rows) rows))))
+      (row_covered plan d (get_or members.owners e 0) rows v)
 
-  member_sizes : (e : ℕ) → e < count → sizes (row_at d members e) ≡ sizes (owner_of e)
-  member_sizes e l = under-sizes plan (owner_of e) (row_at d members e) (related e l)
+  member_sizes : (e : ℕ) → e < members.count → sizes (row_at d members.rows e) ≡ sizes (owner_of e)
+  member_sizes e l = under-sizes plan (owner_of e) (row_at d members.rows e) (related e l)
 
-  member_covered : (e : ℕ) → e < count → Covered largest_component (row_at d members e)
+  member_covered : (e : ℕ) → e < members.count → Covered largest_component (row_at d members.rows e)
   member_covered e l = record {
     narrow = omega arith;
-    covered = λ i. omega (arith, sizes_at (row_at d members e) (owner_of e) (member_sizes e l) i, (owner_covered e l).covered i);
+    covered = λ i. omega (arith, sizes_at (row_at d members.rows e) (owner_of e) (member_sizes e l) i, (owner_covered e l).covered i);
   }
 
-  pub run-members : RowRun d count members
-  run-members = record {
-    few = kin.few;
-    inside = omega (arith, kin.room.rows, mul-le-mul {n₁ = count} {m₁ = d} {n₂ = most_members} {m₂ = axes} kin.few v.few_axes);
-    small = member_covered;
+  pub listed-members : length members.rows ≡ most_members * axes → Pairable d members
+  listed-members long = record {
+    some_axes = v.some_axes;
+    run = record {
+      few = kin.few;
+      inside = omega (arith, mul-le-mul {n₁ = members.count} {m₁ = d} {n₂ = most_members} {m₂ = axes} kin.few v.few_axes);
+      small = member_covered;
+    };
   }
 
-  pub listed-members : (h : List ℤ) → length h ≡ d → Pairable d count members owners h
-  listed-members h e = record { some_axes = v.some_axes; run = run-members; owned = omega (arith, kin.few, kin.room.places); place = e }
-
-  member_size : (e : ℕ) → e < count → length (row_at d members e) ≡ d
-  member_size e l = part_length d count members e l run-members.inside
+  member_size : (e : ℕ) → e < members.count → length (row_at d members.rows e) ≡ d
+  member_size e l =
+      same_length (row_at d members.rows e) (owner_of e) (member_sizes e l)
+      ∙ member_length d (row_count d rows) rows (owner_of e) (omega (arith, v.whole)) (owner_listed e l)
 
   -- a member is a row of the list, where rows have no mirrors
-  member_listed : (e : ℕ) → e < count → mirrors_under plan (owner_of e) ≡ owner_of e ∷ [] → Memᴰ (row_at d members e) (index_list d rows)
-  member_listed e l alone = Memᴰ.cast (Memᴰ.eq_of_singleton (subst (Memᴰ (row_at d members e)) alone (related e l))) (owner_listed e l)
+  member_listed : (e : ℕ) → e < members.count → mirrors_under plan (owner_of e) ≡ owner_of e ∷ [] → Memᴰ (row_at d members.rows e) (index_list d rows)
+  member_listed e l alone = Memᴰ.cast (Memᴰ.eq_of_singleton (subst (Memᴰ (row_at d members.rows e)) alone (related e l))) (owner_listed e l)
 
   -- it is a mirror of a row, where they have
   member-mirrored :
-      (e : ℕ) → e < count → mirrors_under plan (owner_of e) ≡ mirrors (owner_of e)
-      → Memᴰ (row_at d members e) (mirrored (index_list d rows))
+      (e : ℕ) → e < members.count → mirrors_under plan (owner_of e) ≡ mirrors (owner_of e)
+      → Memᴰ (row_at d members.rows e) (mirrored (index_list d rows))
   member-mirrored e l all =
-      mirrored_in (index_list d rows) (owner_of e) (row_at d members e) (owner_listed e l) (subst (Memᴰ (row_at d members e)) all (related e l))
+      mirrored_in (index_list d rows) (owner_of e) (row_at d members.rows e) (owner_listed e l) (subst (Memᴰ (row_at d members.rows e)) all (related e l))
 
 -- different numbers are those of different rows
 rows-differ :
@@ -139,64 +134,64 @@ rows-differ plan d i j rows v l m n e =
 
 -- ---- each pair is kept apart
 -- the difference of two different rows that are a pair of the plan is avoided
-abbrev pub PairsAvoided : (plan d count : ℕ) (rows members : List ℤ) (owners : List ℕ) → Type 0
-PairsAvoided plan d count rows members owners =
-    ValidList plan d rows → Members plan d count (index_list d rows) members owners
-    → (s t : List ℤ) → PlanPairs plan d count rows members owners s t → s ≢ t → Avoided (Admissible plan (index_list d rows)) (minus s t)
+abbrev pub PairsAvoided : (plan d : ℕ) (rows : List ℤ) (members : Members) → Type 0
+PairsAvoided plan d rows members =
+    ValidList plan d rows → Kin plan d (index_list d rows) members
+    → (s t : List ℤ) → PlanPairs plan d rows members s t → s ≢ t → Avoided (Admissible plan (index_list d rows)) (minus s t)
 
 -- plan 0: a member that is not the row of zeros
-avoided_zeros : (d count : ℕ) (rows members : List ℤ) (owners : List ℕ) → PairsAvoided 0 d count rows members owners
-avoided_zeros d count rows members owners v kin s t p n =
+avoided_zeros : (d : ℕ) (rows : List ℤ) (members : Members) → PairsAvoided 0 d rows members
+avoided_zeros d rows members v kin s t p n =
     subst (Avoided (Admissible 0 (index_list d rows))) (sym (ap (minus s) zeros ∙ minus-zeros s))
     (difference_avoided 0 (index_list d rows) s [] (listed, (λ e. n (e ∙ sym zeros)), refl))
   where
     listed : Memᴰ s (index_list d rows)
-    listed = Memᴰ.cast p.pair.pair.left (member_listed 0 d count rows members owners v kin p.pair.turn p.pair.high refl)
+    listed = Memᴰ.cast p.pair.pair.left (member_listed 0 d rows members v kin p.pair.turn p.pair.high refl)
 
     size : length s ≡ d
-    size = ap length p.pair.pair.left ∙ member_size 0 d count rows members owners v kin p.pair.turn p.pair.high
+    size = ap length p.pair.pair.left ∙ member_size 0 d rows members v kin p.pair.turn p.pair.high
 
     zeros : t ≡ zero_row (length s)
     zeros = p.pair.pair.right ∙ ap (row_at d (zero_row d)) (omega (arith, p.high)) ∙ zero_row_lem d ∙ ap zero_row (sym size)
 
 -- plan 1: two members are two rows
-avoided_rows : (d count : ℕ) (rows members : List ℤ) (owners : List ℕ) → PairsAvoided 1 d count rows members owners
-avoided_rows d count rows members owners v kin s t p n =
+avoided_rows : (d : ℕ) (rows : List ℤ) (members : Members) → PairsAvoided 1 d rows members
+avoided_rows d rows members v kin s t p n =
     difference_avoided 1 (index_list d rows) s t (
-      Memᴰ.cast p.pair.pair.left (member_listed 1 d count rows members owners v kin p.pair.turn p.pair.high refl),
-      Memᴰ.cast p.pair.pair.right (member_listed 1 d count rows members owners v kin p.turn p.high refl),
+      Memᴰ.cast p.pair.pair.left (member_listed 1 d rows members v kin p.pair.turn p.pair.high refl),
+      Memᴰ.cast p.pair.pair.right (member_listed 1 d rows members v kin p.turn p.high refl),
       n,
     )
 
 -- plan 2: two members are two mirrors
-avoided_mirrors : (d count : ℕ) (rows members : List ℤ) (owners : List ℕ) → PairsAvoided 2 d count rows members owners
-avoided_mirrors d count rows members owners v kin s t p n =
+avoided_mirrors : (d : ℕ) (rows : List ℤ) (members : Members) → PairsAvoided 2 d rows members
+avoided_mirrors d rows members v kin s t p n =
     difference_avoided 2 (index_list d rows) s t (
-      Memᴰ.cast p.pair.pair.left (member-mirrored 2 d count rows members owners v kin p.pair.turn p.pair.high refl),
-      Memᴰ.cast p.pair.pair.right (member-mirrored 2 d count rows members owners v kin p.turn p.high refl),
+      Memᴰ.cast p.pair.pair.left (member-mirrored 2 d rows members v kin p.pair.turn p.pair.high refl),
+      Memᴰ.cast p.pair.pair.right (member-mirrored 2 d rows members v kin p.turn p.high refl),
       n,
     )
 
 -- plan 3: a mirror and another row
-avoided_against : (d count : ℕ) (rows members : List ℤ) (owners : List ℕ) → PairsAvoided 3 d count rows members owners
-avoided_against d count rows members owners v kin s t p n =
+avoided_against : (d : ℕ) (rows : List ℤ) (members : Members) → PairsAvoided 3 d rows members
+avoided_against d rows members v kin s t p n =
     difference_avoided 3 (index_list d rows) s t (
-      owner_of 3 d count rows members owners v kin p.pair.turn,
+      owner_of 3 d rows members v kin p.pair.turn,
       Memᴰ.cast p.pair.pair.right (row_in d (row_count d rows) rows p.turn p.high),
-      owner_listed 3 d count rows members owners v kin p.pair.turn p.pair.high,
-      Memᴰ.cast p.pair.pair.left (related 3 d count rows members owners v kin p.pair.turn p.pair.high),
+      owner_listed 3 d rows members v kin p.pair.turn p.pair.high,
+      Memᴰ.cast p.pair.pair.left (related 3 d rows members v kin p.pair.turn p.pair.high),
       n,
     )
 
 -- plan 4: a mirror and a row that does not own it
-avoided_others : (d count : ℕ) (rows members : List ℤ) (owners : List ℕ) → PairsAvoided 4 d count rows members owners
-avoided_others d count rows members owners v kin s t p n =
+avoided_others : (d : ℕ) (rows : List ℤ) (members : Members) → PairsAvoided 4 d rows members
+avoided_others d rows members v kin s t p n =
     difference_avoided 4 (index_list d rows) s t (
-      owner_of 4 d count rows members owners v kin p.pair.turn,
+      owner_of 4 d rows members v kin p.pair.turn,
       Memᴰ.cast p.pair.pair.right (row_in d (row_count d rows) rows p.turn p.high),
-      owner_listed 4 d count rows members owners v kin p.pair.turn p.pair.high,
-      (λ e. rows-differ 4 d (get_or owners p.pair.turn 0) p.turn rows v (kin.kin p.pair.turn p.pair.high).0 inside (p.pair.pair.other refl) (sym e ∙ is)),
-      Memᴰ.cast p.pair.pair.left (related 4 d count rows members owners v kin p.pair.turn p.pair.high),
+      owner_listed 4 d rows members v kin p.pair.turn p.pair.high,
+      (λ e. rows-differ 4 d (get_or members.owners p.pair.turn 0) p.turn rows v (kin.kin p.pair.turn p.pair.high).0 inside (p.pair.pair.other refl) (sym e ∙ is)),
+      Memᴰ.cast p.pair.pair.left (related 4 d rows members v kin p.pair.turn p.pair.high),
     )
   where
     inside : p.turn < length (index_list d rows)
@@ -206,13 +201,13 @@ avoided_others d count rows members owners v kin s t p n =
     is = p.pair.pair.right ∙ sym (row_at_lem d (row_count d rows) rows p.turn p.high)
 
 -- all plans
-pub pairs_avoided : (plan d count : ℕ) (rows members : List ℤ) (owners : List ℕ) → plan ≤ 4 → PairsAvoided plan d count rows members owners
-pairs_avoided zero d count rows members owners l = avoided_zeros d count rows members owners
-pairs_avoided (suc zero) d count rows members owners l = avoided_rows d count rows members owners
-pairs_avoided (suc (suc zero)) d count rows members owners l = avoided_mirrors d count rows members owners
-pairs_avoided (suc (suc (suc zero))) d count rows members owners l = avoided_against d count rows members owners
-pairs_avoided (suc (suc (suc (suc zero)))) d count rows members owners l = avoided_others d count rows members owners
-pairs_avoided (suc (suc (suc (suc (suc p))))) d count rows members owners l = absurd (omega arith)
+pub pairs_avoided : (plan d : ℕ) (rows : List ℤ) (members : Members) → plan ≤ 4 → PairsAvoided plan d rows members
+pairs_avoided zero d rows members l = avoided_zeros d rows members
+pairs_avoided (suc zero) d rows members l = avoided_rows d rows members
+pairs_avoided (suc (suc zero)) d rows members l = avoided_mirrors d rows members
+pairs_avoided (suc (suc (suc zero))) d rows members l = avoided_against d rows members
+pairs_avoided (suc (suc (suc (suc zero)))) d rows members l = avoided_others d rows members
+pairs_avoided (suc (suc (suc (suc (suc p))))) d rows members l = absurd (omega arith)
 
 -- ---- each pair that is kept apart is gone through
 -- a list has t - s where it has s - t
@@ -221,16 +216,16 @@ has_turned D s t (inl m) = inr (subst (λ (h : List ℤ). Memᴰ h D) (minus-swa
 has_turned D s t (inr m) = inl (subst (λ (h : List ℤ). Memᴰ h D) (ap negative (minus-swap s t) ∙ negative-negative (minus s t)) m)
 
 -- D has the differences of different rows that are a pair of the plan
-abbrev pub HasPairs : (plan d count : ℕ) (rows members : List ℤ) (owners : List ℕ) (D : List (List ℤ)) → Type 0
-HasPairs plan d count rows members owners D = (s t : List ℤ) → PlanPairs plan d count rows members owners s t → s ≢ t → Has D (minus s t)
+abbrev pub HasPairs : (plan d : ℕ) (rows : List ℤ) (members : Members) (D : List (List ℤ)) → Type 0
+HasPairs plan d rows members D = (s t : List ℤ) → PlanPairs plan d rows members s t → s ≢ t → Has D (minus s t)
 
-module _ (plan d count : ℕ) (rows members : List ℤ) (owners : List ℕ) (all : AllMembers plan d count (index_list d rows) members owners) where
+module _ (plan d : ℕ) (rows : List ℤ) (members : Members) (all : AllMembers plan d (index_list d rows) members) where
   -- a mirror of a row of the list is a member that the row owns
   record Standing (k s : List ℤ) : Type 0 where
     pub number : ℕ
     pub inside : number < length (index_list d rows)
     pub is : get_or (index_list d rows) number [] ≡ k
-    pub member : MemberAt d count number members owners s
+    pub member : MemberAt d number members s
 
   standing : (k s : List ℤ) → Memᴰ k (index_list d rows) → Memᴰ s (mirrors_under plan k) → Standing k s
   standing k s m o = go (place_of (index_list d rows) k [] m)
@@ -244,13 +239,13 @@ module _ (plan d count : ℕ) (rows members : List ℤ) (owners : List ℕ) (all
       }
 
   -- the member, as the code reads it
-  member_is : (i : ℕ) (s : List ℤ) (a : MemberAt d count i members owners s) → s ≡ row_at d members a.place
-  member_is i s a = sym a.is ∙ row_at_lem d count members a.place a.inside
+  member_is : (i : ℕ) (s : List ℤ) (a : MemberAt d i members s) → s ≡ row_at d members.rows a.place
+  member_is i s a = sym a.is ∙ row_at_lem d members.count members.rows a.place a.inside
 
   -- a member and one behind it
   behind :
-      plan ≢ 4 → (i j : ℕ) (s t : List ℤ) (a : MemberAt d count i members owners s) (b : MemberAt d count j members owners t)
-      → b.place < a.place → Turns 0 count (MetPairs plan d count true members members owners) s t
+      plan ≢ 4 → (i j : ℕ) (s t : List ℤ) (a : MemberAt d i members s) (b : MemberAt d j members t)
+      → b.place < a.place → Turns 0 members.count (MetPairs plan d true members.rows members) s t
   behind n i j s t a b l = record {
     turn = b.place;
     low = zero-le;
@@ -266,17 +261,17 @@ module _ (plan d count : ℕ) (rows members : List ℤ) (owners : List ℕ) (all
   -- so the difference of any two different members is there
   two-members :
       (D : List (List ℤ)) → plan ≢ 4
-      → ((s t : List ℤ) → Turns 0 count (MetPairs plan d count true members members owners) s t → s ≢ t → Has D (minus s t))
-      → (i j : ℕ) (s t : List ℤ) → MemberAt d count i members owners s → MemberAt d count j members owners t → s ≢ t → Has D (minus s t)
+      → ((s t : List ℤ) → Turns 0 members.count (MetPairs plan d true members.rows members) s t → s ≢ t → Has D (minus s t))
+      → (i j : ℕ) (s t : List ℤ) → MemberAt d i members s → MemberAt d j members t → s ≢ t → Has D (minus s t)
   two-members D n f i j s t a b o =
       ⊎_elim (λ l. has_turned D s t (f t s (behind n j i t s b a l) (λ e. o (sym e))))
-      (⊎_elim (λ e. absurd (o (member_is i s a ∙ ap (row_at d members) e ∙ sym (member_is j t b)))) (λ l. f s t (behind n i j s t a b l) o))
+      (⊎_elim (λ e. absurd (o (member_is i s a ∙ ap (row_at d members.rows) e ∙ sym (member_is j t b)))) (λ l. f s t (behind n i j s t a b l) o))
       (compared a.place b.place)
 
   -- and that of a member and a row; under plan 4 of one that does not own it
   member-row :
       (D : List (List ℤ))
-      → ((s t : List ℤ) → Turns 0 (row_count d rows) (MetPairs plan d count false rows members owners) s t → s ≢ t → Has D (minus s t))
+      → ((s t : List ℤ) → Turns 0 (row_count d rows) (MetPairs plan d false rows members) s t → s ≢ t → Has D (minus s t))
       → (k s t : List ℤ) → Standing k s → Memᴰ t (index_list d rows) → (plan ≡ 4 → t ≢ k) → s ≢ t → Has D (minus s t)
   member-row D f k s t a m other o = go (place_of (index_list d rows) t [] m)
     where
@@ -304,25 +299,25 @@ module _ (plan d count : ℕ) (rows members : List ℤ) (owners : List ℕ) (all
           inside = omega (arith, p.inside, rows-length d (row_count d rows) rows)
 
 -- the list of a plan's pairs is complete
-abbrev pub PairsComplete : (plan d count : ℕ) (rows members : List ℤ) (owners : List ℕ) → Type 0
-PairsComplete plan d count rows members owners =
-    ValidList plan d rows → AllMembers plan d count (index_list d rows) members owners
-    → (D : List (List ℤ)) → HasPairs plan d count rows members owners D → Complete plan (index_list d rows) D
+abbrev pub PairsComplete : (plan d : ℕ) (rows : List ℤ) (members : Members) → Type 0
+PairsComplete plan d rows members =
+    ValidList plan d rows → AllMembers plan d (index_list d rows) members
+    → (D : List (List ℤ)) → HasPairs plan d rows members D → Complete plan (index_list d rows) D
 
 -- plan 0
-complete_zeros : (d count : ℕ) (rows members : List ℤ) (owners : List ℕ) → PairsComplete 0 d count rows members owners
-complete_zeros d count rows members owners v all D f s t (m, n, e) =
+complete_zeros : (d : ℕ) (rows : List ℤ) (members : Members) → PairsComplete 0 d rows members
+complete_zeros d rows members v all D f s t (m, n, e) =
     subst (λ (r : List ℤ). Has D (minus s r)) (sym e)
     (subst (Has D) (ap (minus s) zeros ∙ minus-zeros s)
     (f s (row_at d (zero_row d) 0) pair (λ q. n (q ∙ zeros))))
   where
-    a : Standing 0 d count rows members owners all s s
-    a = standing 0 d count rows members owners all s s m (under_self 0 s)
+    a : Standing 0 d rows members all s s
+    a = standing 0 d rows members all s s m (under_self 0 s)
 
     zeros : row_at d (zero_row d) 0 ≡ zero_row (length s)
     zeros = zero_row_lem d ∙ ap zero_row (sym (member_length d (row_count d rows) rows s (omega (arith, v.whole)) m))
 
-    pair : PlanPairs 0 d count rows members owners s (row_at d (zero_row d) 0)
+    pair : PlanPairs 0 d rows members s (row_at d (zero_row d) 0)
     pair = record {
       turn = 0;
       low = zero-le;
@@ -331,25 +326,25 @@ complete_zeros d count rows members owners v all D f s t (m, n, e) =
         turn = a.member.place;
         low = zero-le;
         high = a.member.inside;
-        pair = record { other = λ q. absurd (omega arith); left = member_is 0 d count rows members owners all a.number s a.member; right = refl };
+        pair = record { other = λ q. absurd (omega arith); left = member_is 0 d rows members all a.number s a.member; right = refl };
       };
     }
 
 -- plan 1
-complete_rows : (d count : ℕ) (rows members : List ℤ) (owners : List ℕ) → PairsComplete 1 d count rows members owners
-complete_rows d count rows members owners v all D f s t (m, o, n) =
-    two-members 1 d count rows members owners all D (λ q. omega arith) f a.number b.number s t a.member b.member n
+complete_rows : (d : ℕ) (rows : List ℤ) (members : Members) → PairsComplete 1 d rows members
+complete_rows d rows members v all D f s t (m, o, n) =
+    two-members 1 d rows members all D (λ q. omega arith) f a.number b.number s t a.member b.member n
   where
-    a : Standing 1 d count rows members owners all s s
-    a = standing 1 d count rows members owners all s s m (under_self 1 s)
+    a : Standing 1 d rows members all s s
+    a = standing 1 d rows members all s s m (under_self 1 s)
 
-    b : Standing 1 d count rows members owners all t t
-    b = standing 1 d count rows members owners all t t o (under_self 1 t)
+    b : Standing 1 d rows members all t t
+    b = standing 1 d rows members all t t o (under_self 1 t)
 
 -- plan 2
-complete_mirrors : (d count : ℕ) (rows members : List ℤ) (owners : List ℕ) → PairsComplete 2 d count rows members owners
-complete_mirrors d count rows members owners v all D f s t (m, o, n) =
-    two-members 2 d count rows members owners all D (λ q. omega arith) f a.number b.number s t a.member b.member n
+complete_mirrors : (d : ℕ) (rows : List ℤ) (members : Members) → PairsComplete 2 d rows members
+complete_mirrors d rows members v all D f s t (m, o, n) =
+    two-members 2 d rows members all D (λ q. omega arith) f a.number b.number s t a.member b.member n
   where
     p : Mirror (index_list d rows) s
     p = mirrored-out (index_list d rows) s m
@@ -357,80 +352,54 @@ complete_mirrors d count rows members owners v all D f s t (m, o, n) =
     q : Mirror (index_list d rows) t
     q = mirrored-out (index_list d rows) t o
 
-    a : Standing 2 d count rows members owners all p.row s
-    a = standing 2 d count rows members owners all p.row s p.listed p.mirror
+    a : Standing 2 d rows members all p.row s
+    a = standing 2 d rows members all p.row s p.listed p.mirror
 
-    b : Standing 2 d count rows members owners all q.row t
-    b = standing 2 d count rows members owners all q.row t q.listed q.mirror
+    b : Standing 2 d rows members all q.row t
+    b = standing 2 d rows members all q.row t q.listed q.mirror
 
 -- plan 3
-complete_against : (d count : ℕ) (rows members : List ℤ) (owners : List ℕ) → PairsComplete 3 d count rows members owners
-complete_against d count rows members owners v all D f s t (k, m, o, i, n) =
-    member-row 3 d count rows members owners all D f k s t (standing 3 d count rows members owners all k s o i) m (λ q. absurd (omega arith)) n
+complete_against : (d : ℕ) (rows : List ℤ) (members : Members) → PairsComplete 3 d rows members
+complete_against d rows members v all D f s t (k, m, o, i, n) =
+    member-row 3 d rows members all D f k s t (standing 3 d rows members all k s o i) m (λ q. absurd (omega arith)) n
 
 -- plan 4
-complete_others : (d count : ℕ) (rows members : List ℤ) (owners : List ℕ) → PairsComplete 4 d count rows members owners
-complete_others d count rows members owners v all D f s t (k, m, o, n, i) =
-    member-row 4 d count rows members owners all D f k s t (standing 4 d count rows members owners all k s o i) m (λ _. n)
+complete_others : (d : ℕ) (rows : List ℤ) (members : Members) → PairsComplete 4 d rows members
+complete_others d rows members v all D f s t (k, m, o, n, i) =
+    member-row 4 d rows members all D f k s t (standing 4 d rows members all k s o i) m (λ _. n)
     (λ e. n (same_row_lem t t k (v.unsigned (omega arith) t m) (v.unsigned (omega arith) k o) (mirror_self t) (Memᴰ.cast (sym e) i)))
 
 -- all plans
-pub pairs_complete : (plan d count : ℕ) (rows members : List ℤ) (owners : List ℕ) → plan ≤ 4 → PairsComplete plan d count rows members owners
-pairs_complete zero d count rows members owners l = complete_zeros d count rows members owners
-pairs_complete (suc zero) d count rows members owners l = complete_rows d count rows members owners
-pairs_complete (suc (suc zero)) d count rows members owners l = complete_mirrors d count rows members owners
-pairs_complete (suc (suc (suc zero))) d count rows members owners l = complete_against d count rows members owners
-pairs_complete (suc (suc (suc (suc zero)))) d count rows members owners l = complete_others d count rows members owners
-pairs_complete (suc (suc (suc (suc (suc p))))) d count rows members owners l = absurd (omega arith)
+pub pairs_complete : (plan d : ℕ) (rows : List ℤ) (members : Members) → plan ≤ 4 → PairsComplete plan d rows members
+pairs_complete zero d rows members l = complete_zeros d rows members
+pairs_complete (suc zero) d rows members l = complete_rows d rows members
+pairs_complete (suc (suc zero)) d rows members l = complete_mirrors d rows members
+pairs_complete (suc (suc (suc zero))) d rows members l = complete_against d rows members
+pairs_complete (suc (suc (suc (suc zero)))) d rows members l = complete_others d rows members
+pairs_complete (suc (suc (suc (suc (suc p))))) d rows members l = absurd (omega arith)
 
 -- ---- the pairs of a plan, as the code goes through them
-module _ (plan d count : ℕ) (rows members : List ℤ) (owners : List ℕ) (D D' : List (List ℤ)) (w w' : Bool) where
+module _ (plan d : ℕ) (rows : List ℤ) (members : Members) (D D' : List (List ℤ)) (w w' : Bool) where
   pub grown-zeros :
-      plan ≡ 0 → Grown (Turns 0 1 (MetPairs plan d count false (zero_row d) members owners)) D D' w w'
-      → Grown (PlanPairs plan d count rows members owners) D D' w w'
+      plan ≡ 0 → Grown (Turns 0 1 (MetPairs plan d false (zero_row d) members)) D D' w w'
+      → Grown (PlanPairs plan d rows members) D D' w w'
   grown-zeros = go plan
     where
       go :
-          (plan : ℕ) → plan ≡ 0 → Grown (Turns 0 1 (MetPairs plan d count false (zero_row d) members owners)) D D' w w'
-          → Grown (PlanPairs plan d count rows members owners) D D' w w'
+          (plan : ℕ) → plan ≡ 0 → Grown (Turns 0 1 (MetPairs plan d false (zero_row d) members)) D D' w w'
+          → Grown (PlanPairs plan d rows members) D D' w w'
       go zero e g = g
       go (suc p) e g = absurd (omega arith)
 
-  pub grown-members :
-      0 < plan → plan < 3 → Grown (Turns 0 count (MetPairs plan d count true members members owners)) D D' w w'
-      → Grown (PlanPairs plan d count rows members owners) D D' w w'
-  grown-members = go plan
-    where
-      go :
-          (plan : ℕ) → 0 < plan → plan < 3 → Grown (Turns 0 count (MetPairs plan d count true members members owners)) D D' w w'
-          → Grown (PlanPairs plan d count rows members owners) D D' w w'
-      go zero l h g = absurd (omega arith)
-      go (suc zero) l h g = g
-      go (suc (suc zero)) l h g = g
-      go (suc (suc (suc p))) l h g = absurd (omega arith)
-
-  pub grown-rows :
-      3 ≤ plan → Grown (Turns 0 (row_count d rows) (MetPairs plan d count false rows members owners)) D D' w w'
-      → Grown (PlanPairs plan d count rows members owners) D D' w w'
-  grown-rows = go plan
-    where
-      go :
-          (plan : ℕ) → 3 ≤ plan → Grown (Turns 0 (row_count d rows) (MetPairs plan d count false rows members owners)) D D' w w'
-          → Grown (PlanPairs plan d count rows members owners) D D' w w'
-      go zero l g = absurd (omega arith)
-      go (suc zero) l g = absurd (omega arith)
-      go (suc (suc zero)) l g = absurd (omega arith)
-      go (suc (suc (suc p))) l g = g
-
 -- what is made of a pair is avoided with its difference
 pub made-avoided :
-    (plan d count : ℕ) (rows members : List ℤ) (owners : List ℕ) → plan ≤ 4 → ValidList plan d rows
-    → Members plan d count (index_list d rows) members owners → (h : List ℤ) → Made (PlanPairs plan d count rows members owners) h
+    (plan d : ℕ) (rows : List ℤ) (members : Members) → plan ≤ 4 → ValidList plan d rows
+    → Kin plan d (index_list d rows) members → (h : List ℤ) → Made (PlanPairs plan d rows members) h
     → Avoided (Admissible plan (index_list d rows)) h
-made-avoided plan d count rows members owners l v kin h a = go a.which
+made-avoided plan d rows members l v kin h a = go a.which
   where
     avoided : Avoided (Admissible plan (index_list d rows)) (minus a.s a.t)
-    avoided = pairs_avoided plan d count rows members owners l v kin a.s a.t a.pair a.differ
+    avoided = pairs_avoided plan d rows members l v kin a.s a.t a.pair a.differ
 
     go : EitherSign (minus a.s a.t) h → Avoided (Admissible plan (index_list d rows)) h
     go (inl e) = subst (Avoided (Admissible plan (index_list d rows))) (sym e) avoided

@@ -1,28 +1,30 @@
 -- The levels of a list: the test that a row is 0 from an axis on, the rows that end by an axis, runs that hold them, how one
 -- level is written row by row, how the levels are set one after the other, and what the search reads off a level.
 use mathlib.Core.Path.{◌≡◌, refl, sym, ◌∙◌, ap, subst}
-use mathlib.Core.Logic.{◌≢◌, ⊎_elim}
+use mathlib.Core.Logic.{⊎_elim}
 use mathlib.Core.Bool.{Bool, true, false, cond}
 use mathlib.Core.List.Memᴰ
 use mathlib.Core.List.{List, [], ◌∷◌, ◌++◌, append-nil, Memᴰ}
-use Prim.Native.Nat.{ℕ, zero, suc, ◌+◌, ◌*◌, ◌-◌, ◌<◌, ◌≤◌, zero-le}
-use native.Mathlib.Nat.{zero-mul, suc-mul, div-eq_of_eq-mul_left, mul-le-mul_right}
+use Prim.Native.Nat.{ℕ, zero, suc, ◌+◌, ◌*◌, ◌-◌, ◌<◌, ◌≤◌}
+use native.Mathlib.Nat.{suc-mul, div-eq_of_eq-mul_left, mul-le-mul_right}
+use native.Mathlib.Decide.{dec_lt}
 use native.Mathlib.Omega.{arith}
 use borrow.Author.Count.{below_more}
 use borrow.Rule.Slice.PartMut.{put_mid, same_len_mid}
 use lib.Dec.{T}
 use lib.IntN.{ℤ, pos}
-use lib.ListN.{length, get_or, take, drop, set, length-append, length-drop, length-set, drop_of_length-le}
-use lib.Seq.{length-take-le, take_all, drop-cons, take-append-le, drop-append-le, drop_at, get_or-drop, get_or-set_same, get_or-set_other, paste, take-paste, length-paste}
+use lib.ListN.{length, get_or, take, drop, set, length-append, length-drop, length-set}
+use lib.Seq.{length-take-le, take_all, take-append-le, drop-append-le, drop_at, get_or-drop, get_or-set_same, get_or-set_other, paste, take-paste, length-paste}
+use Rattle.std.proofs.lemmas.List.{get_or_past}
 use Rattle.rank1.specs.Tests.{every, same_number}
 use Rattle.rank1.specs.Index.{rows_of, row_count, index_list}
 use Rattle.rank1.specs.Valid.{Distinct, Nonnegative, ValidList}
 use Rattle.rank1.specs.Axes.{ZeroFrom}
-use Rattle.rank1.proofs.TestLaws.{true_holds, holds_true, fails_false, both, joined, decides_number}
+use Rattle.rank1.proofs.TestLaws.{true_holds, holds_true, both, joined, decides_number}
 use Rattle.rank1.proofs.IndexLaws.{rows-length, member_length, rows_snoc}
 use Rattle.planner.specs.Sizes.{axes, most_rows, level_room}
-use Rattle.planner.specs.Inner.{WholeRows, Covered}
-use Rattle.planner.specs.Levels.{zero_from, ending, level_run, RunOf, RowKept, Kept, LevelPlaces, LevelsTo, Levels}
+use Rattle.planner.specs.Inner.{Covered}
+use Rattle.planner.specs.Levels.{zero_from, ending, level_run, RunOf, RowKept, Kept, LevelsTo, Levels}
 use Rattle.planner.proofs.RowLaws.{part-before}
 use Rattle.planner.proofs.products.ProductLaws.{covered_append, covered_take, covered_drop}
 
@@ -45,18 +47,19 @@ zero_from_lem j k e i l =
     split : j + (i - j) ≡ i
     split = omega arith
 
+-- a row is 0 from axis j on where each of its places from there on holds 0
+pub from_places : (j : ℕ) (k : List ℤ) → ((i : ℕ) → j + i < length k → get_or k (j + i) (pos 0) ≡ pos 0) → ZeroFrom j k
+from_places j k h i m =
+    elim (dec_lt i (length k)) [
+      | yes l ↦ subst (λ (p : ℕ). get_or k p (pos 0) ≡ pos 0) split (h (i - j) (omega arith))
+      | no g ↦ get_or_past k i (pos 0) (omega arith)
+    ]
+  where
+    split : j + (i - j) ≡ i
+    split = omega arith
+
 pub from_zero_lem : (j : ℕ) (k : List ℤ) → ZeroFrom j k → zero_from j k ≡ true
 from_zero_lem j k h = holds_true (zero_from j k) (zero_all (drop j k) (λ i. get_or-drop j k i (pos 0) ∙ h (j + i) (omega arith)))
-
--- component by component: one that is 0, one that is not, and none left
-pub zero_more : (k : List ℤ) (i : ℕ) → i < length k → get_or k i (pos 0) ≡ pos 0 → zero_from (suc i) k ≡ zero_from i k
-zero_more k i l e = sym (ap (every (same_number (pos 0))) (drop-cons k i (pos 0) l ∙ ap (λ (x : ℤ). x ∷ drop (suc i) k) e))
-
-pub zero_found : (k : List ℤ) (i : ℕ) → get_or k i (pos 0) ≢ pos 0 → zero_from i k ≡ false
-zero_found k i o = fails_false (zero_from i k) (λ t. o (zero_from_lem i k (holds_true (zero_from i k) t) i (omega arith)))
-
-pub zero_none : (k : List ℤ) (i : ℕ) → length k ≤ i → zero_from i k ≡ true
-zero_none k i l = ap (every (same_number (pos 0))) (drop_of_length-le k l)
 
 -- ---- the rows that end by an axis
 -- where the test of the first row is known
@@ -124,13 +127,6 @@ ending_distinct j (k ∷ ks) h = go (zero_from j k) (ending_distinct j ks h.1)
     go true r = ((λ m. h.0 (ending-out j ks k m).0), r)
     go false r = r
 
--- from the last axis on no row has a component
-pub ending_all : (d : ℕ) (ks : List (List ℤ)) → ((k : List ℤ) → Memᴰ k ks → length k ≡ d) → ending d ks ≡ ks
-ending_all d [] h = refl
-ending_all d (k ∷ ks) h =
-    ending-keep d k ks (zero_none k d (omega (arith, h k (Memᴰ.head refl))))
-    ∙ ap (λ (rs : List (List ℤ)). k ∷ rs) (ending_all d ks (λ r m. h r (Memᴰ.tail m)))
-
 -- ---- runs that hold a list of rows
 -- m rows of d numbers
 pub level_of : (d m : ℕ) (ks : List (List ℤ)) (xs : List ℤ) → 1 ≤ d → length xs ≡ m * d → rows_of d m xs ≡ ks → RunOf d ks xs
@@ -140,10 +136,6 @@ level_of d m ks xs l e p =
 
 pub level_count : {d : ℕ} {ks : List (List ℤ)} {xs : List ℤ} → RunOf d ks xs → row_count d xs ≡ length ks
 level_count {d} {ks} {xs} v = sym (rows-length d (row_count d xs) xs) ∙ ap length v.rows
-
--- no row, and one row more
-pub level_none : (d : ℕ) → 1 ≤ d → RunOf d [] []
-level_none d l = level_of d 0 [] [] l (sym (zero-mul d)) refl
 
 -- m rows are in the first m × d numbers
 rows_front : (d m : ℕ) (xs ys : List ℤ) → m * d ≤ length xs → rows_of d m (xs ++ ys) ≡ rows_of d m xs
@@ -182,9 +174,6 @@ pub record Keeping (d j i : ℕ) (xs old new : List ℤ) (at : ℕ) : Type 0 whe
   pub same : length new ≡ length old
   pub covers : (top : ℕ) → Covered top xs → Covered top old → Covered top new
 
-pub keep_none : (d j : ℕ) (xs old : List ℤ) → 1 ≤ d → Keeping d j 0 xs old old 0
-keep_none d j xs old l = record { level = level_none d l; fits = zero-le; same = refl; covers = λ top f g. g }
-
 module _ (d j i : ℕ) (xs old new : List ℤ) (at : ℕ) (s : Keeping d j i xs old new at) where
   -- row i does not end there
   keep_skip : zero_from j (take d (drop (i * d) xs)) ≡ false → Keeping d j (suc i) xs old new at
@@ -219,9 +208,6 @@ module _ (d j i : ℕ) (xs old new : List ℤ) (at : ℕ) (s : Keeping d j i xs 
       past : suc i * d ≡ i * d + d
       past = suc-mul i d
 
-      room : at + d ≤ length new
-      room = omega (arith, s.fits, s.same, past)
-
       rest : d ≤ length (drop (i * d) xs)
       rest = omega (arith, length-drop (i * d) xs, past)
 
@@ -238,21 +224,7 @@ module _ (d j i : ℕ) (xs old new : List ℤ) (at : ℕ) (s : Keeping d j i xs 
       go true e = let p = k.copied e in moved (paste new at (drop (i * d) xs) d) (at + d) p.0 p.1 (keep_row l f g e)
       go false e = let p = k.passed e in moved new at p.0 p.1 (keep_skip e)
 
--- all rows are passed
-pub keep_all :
-    (d j i : ℕ) (xs old new : List ℤ) (at : ℕ) → i ≡ row_count d xs → length xs ≡ row_count d xs * d
-    → Keeping d j i xs old new at → Kept d j xs old new at
-keep_all d j i xs old new at e w s = record {
-  level = subst (λ (m : ℕ). RunOf d (ending j (rows_of d m xs)) (take at new)) e s.level;
-  fits = omega (arith, s.fits, ap (λ (m : ℕ). m * d) e);
-  covers = s.covers;
-}
-
 -- ---- the levels, one after the other
--- no level is set yet
-pub levels_none : (d top : ℕ) (xs levels : List ℤ) (sizes : List ℕ) → LevelPlaces top levels sizes → LevelsTo d top 0 xs levels sizes
-levels_none d top xs levels sizes a = record { area = a; few = λ i l. absurd (omega arith); level = λ i l. absurd (omega arith) }
-
 -- the places of one level
 pub part-size :
     (j k : ℕ) (levels : List ℤ) → k ≡ level_room → j < axes + 1 → length levels ≡ (axes + 1) * level_room
@@ -316,10 +288,6 @@ module _ (d top j : ℕ) (xs levels : List ℤ) (sizes : List ℕ) (k r : ℕ) (
           ap (λ (n : ℕ). take n (drop (i * level_room) after)) (other i m)
           ∙ part-before (i * level_room) (get_or sizes i 0) (j * level_room) levels (new ++ drop k rest) (omega (arith, s.few i m)) start
 
--- all of them are set
-pub levels_all : (d top j : ℕ) (xs levels : List ℤ) (sizes : List ℕ) → d < j → LevelsTo d top j xs levels sizes → Levels d top xs levels sizes
-levels_all d top j xs levels sizes l s = record { area = s.area; few = λ i m. s.few i (omega arith); level = λ i m. s.level i (omega arith) }
-
 -- ---- what the rule asks of a level
 -- the rows of a run: whole, few, different, without negative components under plans 2 to 4, 0 from axis j on, none too large
 pub record LevelReady (plan d top j : ℕ) (xs : List ℤ) : Type 0 where
@@ -332,10 +300,6 @@ pub record LevelReady (plan d top j : ℕ) (xs : List ℤ) : Type 0 where
 
 -- ---- a valid list and its levels
 module _ (plan d : ℕ) (xs : List ℤ) (v : ValidList plan d xs) where
-  -- its rows are whole
-  pub valid_whole : WholeRows d xs
-  valid_whole = record { some_axes = v.some_axes; whole = v.whole }
-
   -- each has d components
   pub valid_long : (k : List ℤ) → Memᴰ k (index_list d xs) → length k ≡ d
   valid_long k m = member_length d (row_count d xs) xs k (omega (arith, v.whole)) m

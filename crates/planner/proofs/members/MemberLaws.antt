@@ -1,33 +1,32 @@
 -- How the members are made. A row's mirrors come by doubling (`first_mirror`, `mirrors_zero`, `doubled-all`): what stands there at
 -- axis a are mirrors of the row, and all of those that have its components from a on; behind the last axis these are all (`same_end`).
--- Written behind the members of the rows before it, they are the members of one row more (`gathering_more`). Each has d components
--- (`member_length`), none of them large (`member_small`).
+-- Written behind the members of the rows before it, they are the members of one row more (`gathering_more`).
 use mathlib.Core.Path.{◌≡◌, refl, sym, ◌∙◌, ap, subst}
-use mathlib.Core.Logic.{◌⊎◌, ◌≢◌, inl, inr, ⊎_elim}
+use mathlib.Core.Logic.{◌⊎◌, inl, inr, ⊎_elim}
 use mathlib.Core.Bool.{Bool, true, false, cond, true≢false}
 use mathlib.Core.List.Memᴰ
-use mathlib.Core.List.{List, [], ◌∷◌, ◌++◌, map, append-nil, append_assoc, Memᴰ}
-use Prim.Native.Nat.{ℕ, ◌+◌, ◌-◌, ◌*◌, ◌<◌, ◌≤◌, zero-le}
-use native.Mathlib.Nat.{suc_inj, add-zero, add_assoc, mul-le-mul_right}
+use mathlib.Core.List.{List, [], ◌∷◌, ◌++◌, map, append_assoc, Memᴰ}
+use Prim.Native.Nat.{ℕ, suc, ◌+◌, ◌-◌, ◌*◌, ◌<◌, ◌≤◌, zero-le}
+use native.Mathlib.Nat.{suc_inj, suc-mul, add_assoc, mul-le-mul_right}
 use native.Mathlib.Numerals.{add-one}
 use native.Mathlib.Decide.{ℕ_discrete, dec_le}
 use native.Mathlib.Omega.{arith}
 use borrow.Author.Tests.{le-leb, lt-leb}
-use lib.Dec.{leb}
 use lib.IntN.{ℤ, pos, negsuc, nat_abs, neg_ℤ}
-use lib.ListN.{length, get_or, set, take, drop, length-append, length-set, drop_of_length-le, get_or-append, get_or-eq_default}
-use lib.Seq.{ext_get_or, take_all, take-suc, drop_at, get_or-take, get_or-drop, get_or-append_seam, get_or-set_same, get_or-set_other}
-use Rattle.rank1.specs.Index.{rows_of, row_count, index_list, mirrors}
+use lib.ListN.{length, get_or, take, drop, length-append, drop_of_length-le, get_or-append, get_or-eq_default}
+use lib.Seq.{ext_get_or, paste, take_all, take-suc, drop_at, get_or-take, get_or-drop, get_or-append_seam}
+use Rattle.rank1.specs.Index.{rows_of, mirrors}
 use Rattle.rank1.specs.Sums.{mirrors_under}
-use Rattle.rank1.specs.Valid.{ValidList}
 use Rattle.rank1.specs.Axes.{flip}
 use Rattle.rank1.proofs.Distinct.{Place, place_of}
 use Rattle.rank1.proofs.IndexLaws.{rows-length, row_at_lem, rows_snoc}
-use Rattle.rank1.proofs.MirrorLaws.{sizes, same_length, sizes_at, abs_zero, mirror-sizes, sizes-mirror, mirror_self}
+use Rattle.rank1.proofs.MirrorLaws.{same_length, sizes_at, abs_zero, mirror-sizes, sizes-mirror, mirror_self}
 use Rattle.rank1.proofs.FlipLaws.{flip_at, flip_other, flip-flip, flip-sizes}
-use Rattle.planner.specs.Sizes.{most_members, largest_component}
-use Rattle.planner.specs.Members.{MemberRoom, Members, MemberAt, Gathering, SmallRow, SameFrom, members_from, MembersStay, Doubled, Mirroring}
-use Rattle.planner.proofs.RowLaws.{row-size, row_among, rows_stay, rows-from, rows-from-length, row-behind}
+use Rattle.planner.specs.Sizes.{axes, most_members, largest_component, largest_size}
+use Rattle.planner.specs.Inner.{Covered, row_at}
+use Rattle.planner.specs.declared.members.Members.{Members}
+use Rattle.planner.specs.Members.{members_of, MemberAt, Gathering, SmallRow, SameFrom, members_from, Pushed, MembersStay, Doubled, Mirroring}
+use Rattle.planner.proofs.RowLaws.{row_joined, row_among, rows_stay, rows-from, rows-from-length, row-behind}
 
 -- ---- the mirrors of a row, by doubling
 -- numbers of one size are equal or opposite
@@ -95,240 +94,206 @@ doubled-all k a ss all s m h =
     (same_or_flipped k s a m h)
 
 -- ---- rows once more behind the others
--- component j of a row, x, as it is copied: with the other sign at the axis
-pub flip-component :
-    (k : List ℤ) (j axis : ℕ) (x r : ℤ) → x ≡ get_or k j (pos 0) → (j ≡ axis → r ≡ neg_ℤ x) × (j ≢ axis → r ≡ x)
-    → r ≡ get_or (flip axis k) j (pos 0)
-flip-component k j axis x r e h = go (ℕ_discrete j axis)
-  where
-    go : Dec (j ≡ axis) → r ≡ get_or (flip axis k) j (pos 0)
-    go (yes q) =
-        h.0 q
-        ∙ ap neg_ℤ (e ∙ ap (λ (i : ℕ). get_or k i (pos 0)) q)
-        ∙ sym (flip_at axis k)
-        ∙ ap (λ (i : ℕ). get_or (flip axis k) i (pos 0)) (sym q)
-    go (no q) = h.1 q ∙ e ∙ sym (flip_other axis j k q)
-
 -- there is room for one more
-pub member_room : (d n : ℕ) (members : List ℤ) (owners : List ℕ) → MemberRoom d members owners → n < most_members → (n + 1) * d ≤ length members
-member_room d n members owners r l = omega (arith, mul-le-mul_right {m = n + 1} {n = most_members} d (omega arith), r.few_axes, r.rows)
-
--- the room stays as large as it is
-pub room-stays :
-    (d : ℕ) (members new : List ℤ) (owners owners' : List ℕ) → length new ≡ length members → length owners' ≡ length owners
-    → MemberRoom d members owners → MemberRoom d new owners'
-room-stays d members new owners owners' e f r = record { few_axes = r.few_axes; rows = e ∙ r.rows; places = f ∙ r.places }
-
--- none yet
-pub doubled_none : (d from count axis owner : ℕ) (old : List ℤ) (owners : List ℕ) → Doubled d from count 0 axis owner old old owners owners
-doubled_none d from count axis owner old owners = record {
-  rows = ap (λ (m : ℕ). rows_of d m old) (add-zero count) ∙ sym (append-nil (rows_of d count old));
-  kept = λ e l. refl;
-  owned = λ e l h. absurd (omega arith);
-}
+pub member_room : (d : ℕ) (m : Members) → d ≤ axes → length m.rows ≡ most_members * axes → m.count < most_members → m.count * d + d ≤ length m.rows
+member_room d m f e l = omega (arith, suc-mul m.count d, mul-le-mul_right {m = suc m.count} {n = most_members} d l)
 
 -- a map over one element more
 map_snoc : {A B : Type 0} (f : A → B) (xs : List A) (x : A) → map f (xs ++ (x ∷ [])) ≡ map f xs ++ (f x ∷ [])
 map_snoc f [] x = refl
 map_snoc {A} {B} f (y ∷ xs) x = ap (λ (l : List B). f y ∷ l) (map_snoc f xs x)
 
-module _ (d from count n axis owner : ℕ) (old new : List ℤ) (owners owners' : List ℕ)
-    (s : Doubled d from count n axis owner old new owners owners') (l : from + n < count) where
+module _ (d from n axis owner : ℕ) (old mid : Members) (s : Doubled d from n axis owner old mid) (l : from + n < old.count) where
   -- the next one is as it was
-  pub doubled_next : get_or (rows_of d (count + n) new) (from + n) [] ≡ get_or (rows_of d count old) (from + n) []
+  doubled_next : get_or (members_of d mid) (from + n) [] ≡ get_or (members_of d old) (from + n) []
   doubled_next =
       ap (λ (ks : List (List ℤ)). get_or ks (from + n) []) s.rows
-      ∙ get_or-append (rows_of d count old) (map (flip axis) (take n (members_from d from count old))) [] (from + n)
-      (omega (arith, rows-length d count old))
+      ∙ get_or-append (members_of d old) (map (flip axis) (take n (members_from d from old))) [] (from + n)
+      (omega (arith, rows-length d old.count old.rows))
 
   -- one more
-  pub doubled-more :
-      (new' : List ℤ) → count + n < length owners'
-      → rows_of d (count + n + 1) new' ≡ rows_of d (count + n) new ++ (flip axis (get_or (rows_of d (count + n) new) (from + n) []) ∷ [])
-      → Doubled d from count (n + 1) axis owner old new' owners (set owners' (count + n) owner)
-  doubled-more new' h e = record {
+  doubled-more :
+      (new : Members) → Pushed d (flip axis (get_or (members_of d mid) (from + n) [])) owner mid new
+      → Doubled d from (n + 1) axis owner old new
+  doubled-more new p = record {
+    count = p.count ∙ ap (λ (c : ℕ). c + 1) s.count ∙ add_assoc old.count n 1;
+    whole = p.whole ∙ s.whole;
     rows =
-        ap (λ (m : ℕ). rows_of d m new') (sym (add_assoc count n 1))
-        ∙ e
+        p.rows
         ∙ ap (λ (ks : List (List ℤ)). ks ++ (next ∷ [])) s.rows
-        ∙ append_assoc (rows_of d count old) (map (flip axis) (take n block)) (next ∷ [])
-        ∙ ap (λ (ks : List (List ℤ)). rows_of d count old ++ ks) copied;
-    kept = λ i g. get_or-set_other owners' (count + n) i owner 0 (λ q. omega arith) ∙ s.kept i g;
-    owned = λ i f g. go i f g (ℕ_discrete i (count + n));
+        ∙ append_assoc (members_of d old) (map (flip axis) (take n block)) (next ∷ [])
+        ∙ ap (λ (ks : List (List ℤ)). members_of d old ++ ks) copied;
+    kept = λ i g. p.kept i (omega (arith, s.count)) ∙ s.kept i g;
+    owned = λ i f g. go i f g (ℕ_discrete i mid.count);
   }
     where
       block : List (List ℤ)
-      block = members_from d from count old
+      block = members_from d from old
 
       next : List ℤ
-      next = flip axis (get_or (rows_of d (count + n) new) (from + n) [])
+      next = flip axis (get_or (members_of d mid) (from + n) [])
 
       copied : map (flip axis) (take n block) ++ (next ∷ []) ≡ map (flip axis) (take (n + 1) block)
       copied =
-          ap (λ (k : List ℤ). map (flip axis) (take n block) ++ (flip axis k ∷ [])) (doubled_next ∙ sym (get_or-drop from (rows_of d count old) n []))
+          ap (λ (k : List ℤ). map (flip axis) (take n block) ++ (flip axis k ∷ [])) (doubled_next ∙ sym (get_or-drop from (members_of d old) n []))
           ∙ sym (map_snoc (flip axis) (take n block) (get_or block n []))
           ∙ ap (map (flip axis))
-          (sym (take-suc block n [] (omega (arith, rows-from-length d from count old))) ∙ ap (λ (m : ℕ). take m block) (sym (add-one n)))
+          (sym (take-suc block n [] (omega (arith, rows-from-length d from old.count old.rows))) ∙ ap (λ (m : ℕ). take m block) (sym (add-one n)))
 
-      go : (i : ℕ) → count ≤ i → i < count + (n + 1) → Dec (i ≡ count + n) → get_or (set owners' (count + n) owner) i 0 ≡ owner
-      go i f g (yes q) = ap (λ (j : ℕ). get_or (set owners' (count + n) owner) j 0) q ∙ get_or-set_same owners' (count + n) owner 0 h
-      go i f g (no q) = get_or-set_other owners' (count + n) i owner 0 q ∙ s.owned i f (omega arith)
+      go : (i : ℕ) → old.count ≤ i → i < new.count → Dec (i ≡ mid.count) → get_or new.owners i 0 ≡ owner
+      go i f g (yes q) = ap (λ (j : ℕ). get_or new.owners j 0) q ∙ p.owned
+      go i f g (no q) = let h : i < mid.count = omega (arith, p.count) in p.kept i h ∙ s.owned i f h
+
+-- the same by the number i of the member
+module _ (d from i axis owner : ℕ) (old mid : Members) (s : Doubled d from (i - from) axis owner old mid) (f : from ≤ i) (l : i < old.count) where
+  number : from + (i - from) ≡ i
+  number = omega arith
+
+  pub doubled-as : get_or (members_of d mid) i [] ≡ get_or (members_of d old) i []
+  doubled-as =
+      subst (λ (k : ℕ). get_or (members_of d mid) k [] ≡ get_or (members_of d old) k []) number
+      (doubled_next d from (i - from) axis owner old mid s (omega arith))
+
+  pub doubled-once :
+      (new : Members) → Pushed d (flip axis (get_or (members_of d mid) i [])) owner mid new
+      → Doubled d from (i + 1 - from) axis owner old new
+  doubled-once new p =
+      subst (λ (n : ℕ). Doubled d from n axis owner old new) (omega arith)
+      (doubled-more d from (i - from) axis owner old mid s (omega arith) new
+      (subst (λ (k : ℕ). Pushed d (flip axis (get_or (members_of d mid) k [])) owner mid new) (sym number) p))
 
 -- all of them
-pub doubled-block :
-    (d from count axis owner : ℕ) (old new : List ℤ) (owners owners' : List ℕ) → from ≤ count
-    → Doubled d from count (count - from) axis owner old new owners owners'
-    → members_from d from (count + (count - from)) new ≡ members_from d from count old ++ map (flip axis) (members_from d from count old)
-doubled-block d from count axis owner old new owners owners' l s =
-    rows-from d from count (count + (count - from)) new old (map (flip axis) (take (count - from) block)) l s.rows
-    ∙ ap (λ (ks : List (List ℤ)). block ++ map (flip axis) ks) (take_all (count - from) block (omega (arith, rows-from-length d from count old)))
+doubled-block :
+    (d from axis owner : ℕ) (old new : Members) → from ≤ old.count → Doubled d from (old.count - from) axis owner old new
+    → members_from d from new ≡ members_from d from old ++ map (flip axis) (members_from d from old)
+doubled-block d from axis owner old new l s =
+    rows-from d from old.count new.count new.rows old.rows (map (flip axis) (take (old.count - from) block)) l s.rows
+    ∙ ap (λ (ks : List (List ℤ)). block ++ map (flip axis) ks)
+    (take_all (old.count - from) block (omega (arith, rows-from-length d from old.count old.rows)))
   where
     block : List (List ℤ)
-    block = members_from d from count old
+    block = members_from d from old
 
 -- ---- what stands before stays
--- where nothing is written
-pub stay_same : (d count : ℕ) (members : List ℤ) (owners : List ℕ) → MembersStay d count members members owners owners
-stay_same d count members owners = record { rows = refl; owned = λ e l. refl }
+-- the same members, which are not all
+abbrev pub some : Members → Members
+some m = record { rows = m.rows; owners = m.owners; count = m.count; whole = false }
+
+pub stay_some : (d from : ℕ) (m : Members) → MembersStay d from m (some m)
+stay_some d from m = record { rows = refl; owned = λ e l. refl; was = λ w. absurd (true≢false (sym w)) }
 
 -- through two steps
-pub stay_then :
-    (d count : ℕ) (xs ys zs : List ℤ) (ps qs rs : List ℕ) → MembersStay d count xs ys ps qs → MembersStay d count ys zs qs rs
-    → MembersStay d count xs zs ps rs
-stay_then d count xs ys zs ps qs rs s t = record { rows = t.rows ∙ s.rows; owned = λ e l. t.owned e l ∙ s.owned e l }
+pub stay_then : (d from : ℕ) (a b c : Members) → MembersStay d from a b → MembersStay d from b c → MembersStay d from a c
+stay_then d from a b c s t = record { rows = t.rows ∙ s.rows; owned = λ e l. t.owned e l ∙ s.owned e l; was = λ w. s.was (t.was w) }
 
--- where a row is copied behind
-pub stay-pushed :
-    (d count owner : ℕ) (k old new : List ℤ) (owners : List ℕ) → rows_of d (count + 1) new ≡ rows_of d count old ++ (k ∷ [])
-    → MembersStay d count old new owners (set owners count owner)
-stay-pushed d count owner k old new owners e = record {
-  rows = rows_stay d count count (count + 1) new old (k ∷ []) (omega arith) (omega arith) e;
-  owned = λ i l. get_or-set_other owners count i owner 0 (λ q. omega arith);
+-- where a row comes behind
+pub stay-pushed : (d owner : ℕ) (k : List ℤ) (old new : Members) → Pushed d k owner old new → MembersStay d old.count old new
+stay-pushed d owner k old new p = record {
+  rows = rows_stay d old.count old.count new.count new.rows old.rows (k ∷ []) (omega arith) (omega (arith, p.count)) p.rows;
+  owned = p.kept;
+  was = λ w. sym p.whole ∙ w;
 }
 
 -- and where some stand once more
 pub stay-doubled :
-    (d from count n axis owner : ℕ) (old new : List ℤ) (owners owners' : List ℕ) → from ≤ count
-    → Doubled d from count n axis owner old new owners owners' → MembersStay d from old new owners owners'
-stay-doubled d from count n axis owner old new owners owners' l s = record {
-  rows = rows_stay d from count (count + n) new old (map (flip axis) (take n (members_from d from count old))) l (omega arith) s.rows;
+    (d from n axis owner : ℕ) (old new : Members) → from ≤ old.count → Doubled d from n axis owner old new → MembersStay d from old new
+stay-doubled d from n axis owner old new l s = record {
+  rows = rows_stay d from old.count new.count new.rows old.rows (map (flip axis) (take n (members_from d from old))) l (omega (arith, s.count)) s.rows;
   owned = λ e h. s.kept e (omega arith);
+  was = λ w. sym s.whole ∙ w;
 }
 
 -- ---- one row's mirrors in the table
-module _ (d from owner : ℕ) (k : List ℤ) where
-  -- the row, copied behind the others, stands alone
-  alone : (old new : List ℤ) → rows_of d (from + 1) new ≡ rows_of d from old ++ (k ∷ []) → members_from d from (from + 1) new ≡ k ∷ []
-  alone old new e = ap (drop from) e ∙ drop_at (rows_of d from old) (k ∷ []) from (rows-length d from old)
+module _ (d owner : ℕ) (k : List ℤ) where
+  -- the row, behind the others, stands alone
+  alone : (old new : Members) → Pushed d k owner old new → members_from d old.count new ≡ k ∷ []
+  alone old new p = ap (drop old.count) p.rows ∙ drop_at (members_of d old) (k ∷ []) old.count (rows-length d old.count old.rows)
 
   -- with its owner beside it, it is the first of its mirrors
   pub mirroring-first :
-      (old new : List ℤ) (owners : List ℕ) → MemberRoom d new (set owners from owner) → length k ≡ d → SmallRow k → from < most_members
-      → rows_of d (from + 1) new ≡ rows_of d from old ++ (k ∷ []) → Mirroring d 0 from (from + 1) owner k new (set owners from owner) true
-  mirroring-first old new owners r e f l g = record {
-    room = r;
+      (old new : Members) → d ≤ axes → length k ≡ d → SmallRow k → old.count < most_members → Pushed d k owner old new → Mirroring d 0 old.count owner k new
+  mirroring-first old new r e f l p = record {
+    few_axes = r;
     size = e;
     small = f;
-    few = omega arith;
-    within = omega arith;
-    owned = λ i a b. owned i (omega arith);
-    kin = λ s m. Memᴰ.cast (Memᴰ.eq_of_singleton (subst (Memᴰ s) (alone old new g) m)) (mirror_self k);
-    all = λ w s m h. subst (Memᴰ s) (sym (alone old new g)) (first_mirror k s m h);
+    few = omega (arith, p.count);
+    within = omega (arith, p.count);
+    owned = λ i a b. owned i (omega (arith, p.count));
+    kin = λ s m. Memᴰ.cast (Memᴰ.eq_of_singleton (subst (Memᴰ s) (alone old new p) m)) (mirror_self k);
+    all = λ w s m h. subst (Memᴰ s) (sym (alone old new p)) (first_mirror k s m h);
   }
     where
-      owned : (i : ℕ) → i ≡ from → get_or (set owners from owner) i 0 ≡ owner
-      owned i q =
-          ap (λ (j : ℕ). get_or (set owners from owner) j 0) q
-          ∙ get_or-set_same owners from owner 0 (omega (arith, r.places, length-set owners from owner))
+      owned : (i : ℕ) → i ≡ old.count → get_or new.owners i 0 ≡ owner
+      owned i q = ap (λ (j : ℕ). get_or new.owners j 0) q ∙ p.owned
 
-  -- an axis at which nothing is written: what is left to show is that all are there
-  onward :
-      (a b count : ℕ) (members : List ℤ) (owners : List ℕ) (whole here : Bool) → Mirroring d a from count owner k members owners whole
-      → (here ≡ true → (s : List ℤ) → Memᴰ s (mirrors k) → SameFrom b s k → Memᴰ s (members_from d from count members))
-      → Mirroring d b from count owner k members owners here
-  onward a b count members owners whole here t h = record {
-    room = t.room;
+  -- the row is 0 at an axis
+  pub mirroring-zero : (a from : ℕ) (m : Members) → get_or k a (pos 0) ≡ pos 0 → Mirroring d a from owner k m → Mirroring d (a + 1) from owner k m
+  mirroring-zero a from m e t = record {
+    few_axes = t.few_axes;
     size = t.size;
     small = t.small;
     few = t.few;
     within = t.within;
     owned = t.owned;
     kin = t.kin;
-    all = h;
+    all = λ w s m h. t.all w s m (mirrors_zero k s a e m h);
   }
-
-  -- the row is 0 there
-  pub mirroring-zero :
-      (a count : ℕ) (members : List ℤ) (owners : List ℕ) (whole : Bool) → get_or k a (pos 0) ≡ pos 0
-      → Mirroring d a from count owner k members owners whole → Mirroring d (a + 1) from count owner k members owners whole
-  mirroring-zero a count members owners whole e t =
-      onward a (a + 1) count members owners whole whole t (λ w s m h. t.all w s m (mirrors_zero k s a e m h))
-
-  -- not all are made: there is no room, or no signs are changed from some axis on
-  pub mirroring-some :
-      (a b count : ℕ) (members : List ℤ) (owners : List ℕ) (whole : Bool)
-      → Mirroring d a from count owner k members owners whole → Mirroring d b from count owner k members owners false
-  mirroring-some a b count members owners whole t =
-      onward a b count members owners whole false t (λ w. absurd (true≢false (sym w)))
 
   -- any other axis
   pub mirroring-doubled :
-      (a count : ℕ) (old new : List ℤ) (owners owners' : List ℕ) (whole : Bool) → MemberRoom d new owners' → count + (count - from) ≤ most_members
-      → Mirroring d a from count owner k old owners whole → Doubled d from count (count - from) a owner old new owners owners'
-      → Mirroring d (a + 1) from (count + (count - from)) owner k new owners' whole
-  mirroring-doubled a count old new owners owners' whole r l t s = record {
-    room = r;
+      (a from : ℕ) (old new : Members) → old.count + (old.count - from) ≤ most_members → Mirroring d a from owner k old
+      → Doubled d from (old.count - from) a owner old new → Mirroring d (a + 1) from owner k new
+  mirroring-doubled a from old new l t s = record {
+    few_axes = t.few_axes;
     size = t.size;
     small = t.small;
-    few = l;
-    within = omega (arith, t.within);
-    owned = λ e f g. owned e f g (dec_le count e);
+    few = omega (arith, s.count);
+    within = omega (arith, t.within, s.count);
+    owned = λ e f g. owned e f g (dec_le old.count e);
     kin = λ i m. doubled-kin k a block t.kin i (subst (Memᴰ i) now m);
-    all = λ w i m h. subst (Memᴰ i) (sym now) (doubled-all k a block (t.all w) i m h);
+    all = λ w i m h. subst (Memᴰ i) (sym now) (doubled-all k a block (t.all (sym s.whole ∙ w)) i m h);
   }
     where
       block : List (List ℤ)
-      block = members_from d from count old
+      block = members_from d from old
 
-      now : members_from d from (count + (count - from)) new ≡ block ++ map (flip a) block
-      now = doubled-block d from count a owner old new owners owners' t.within s
+      now : members_from d from new ≡ block ++ map (flip a) block
+      now = doubled-block d from a owner old new t.within s
 
-      owned : (e : ℕ) → from ≤ e → e < count + (count - from) → Dec (count ≤ e) → get_or owners' e 0 ≡ owner
+      owned : (e : ℕ) → from ≤ e → e < new.count → Dec (old.count ≤ e) → get_or new.owners e 0 ≡ owner
       owned e f g (yes h) = s.owned e h g
       owned e f g (no h) = s.kept e (omega arith) ∙ t.owned e f (omega arith)
 
 -- ---- the members of one row more
 -- from number `from` on
-pub record RowMembers (plan d from count owner : ℕ) (k members : List ℤ) (owners : List ℕ) (whole : Bool) : Type 0 where
-  pub room : MemberRoom d members owners
-  pub few : count ≤ most_members
-  pub within : from ≤ count
-  pub owned : (e : ℕ) → from ≤ e → e < count → get_or owners e 0 ≡ owner
-  pub kin : (s : List ℤ) → Memᴰ s (members_from d from count members) → Memᴰ s (mirrors_under plan k)
-  pub all : whole ≡ true → (s : List ℤ) → Memᴰ s (mirrors_under plan k) → Memᴰ s (members_from d from count members)
+pub record RowMembers (plan d from owner : ℕ) (k : List ℤ) (m : Members) : Type 0 where
+  pub few_axes : d ≤ axes
+  pub few : m.count ≤ most_members
+  pub within : from ≤ m.count
+  pub owned : (e : ℕ) → from ≤ e → e < m.count → get_or m.owners e 0 ≡ owner
+  pub kin : (s : List ℤ) → Memᴰ s (members_from d from m) → Memᴰ s (mirrors_under plan k)
+  pub all : m.whole ≡ true → (s : List ℤ) → Memᴰ s (mirrors_under plan k) → Memᴰ s (members_from d from m)
 
 -- there is no room for any
-pub row-full :
-    (plan d from owner : ℕ) (k members : List ℤ) (owners : List ℕ) → MemberRoom d members owners → from ≤ most_members
-    → RowMembers plan d from from owner k members owners false
-row-full plan d from owner k members owners r l = record {
-  room = r;
+pub row-full : (plan d owner : ℕ) (k : List ℤ) (m : Members) → d ≤ axes → m.count ≤ most_members → RowMembers plan d m.count owner k (some m)
+row-full plan d owner k m r l = record {
+  few_axes = r;
   few = l;
   within = omega arith;
   owned = λ e f g. absurd (omega arith);
-  kin = λ s m. absurd (Memᴰ.not-nil (subst (Memᴰ s) none m));
+  kin = λ s i. absurd (Memᴰ.not-nil (subst (Memᴰ s) none i));
   all = λ w. absurd (true≢false (sym w));
 }
   where
-    none : members_from d from from members ≡ []
-    none = drop_of_length-le (rows_of d from members) {i = from} (omega (arith, rows-length d from members))
+    none : members_from d m.count m ≡ []
+    none = drop_of_length-le (members_of d m) {i = m.count} (omega (arith, rows-length d m.count m.rows))
 
 -- plans 0 and 1: the row alone
 pub row-alone :
-    (plan d from owner : ℕ) (k old new : List ℤ) (owners : List ℕ) → plan < 2 → rows_of d (from + 1) new ≡ rows_of d from old ++ (k ∷ [])
-    → Mirroring d 0 from (from + 1) owner k new owners true → RowMembers plan d from (from + 1) owner k new owners true
-row-alone plan d from owner k old new owners l e t = record {
-  room = t.room;
+    (plan d owner : ℕ) (k : List ℤ) (old new : Members) → plan < 2 → Pushed d k owner old new → Mirroring d 0 old.count owner k new
+    → RowMembers plan d old.count owner k new
+row-alone plan d owner k old new l p t = record {
+  few_axes = t.few_axes;
   few = t.few;
   within = t.within;
   owned = t.owned;
@@ -336,37 +301,28 @@ row-alone plan d from owner k old new owners l e t = record {
   all = λ w s m. subst (Memᴰ s) (sym same) m;
 }
   where
-    same : members_from d from (from + 1) new ≡ mirrors_under plan k
-    same = alone d from owner k old new e ∙ sym (ap (λ (b : Bool). cond b (mirrors k) (k ∷ [])) (lt-leb 2 plan l))
+    same : members_from d old.count new ≡ mirrors_under plan k
+    same = alone d owner k old new p ∙ sym (ap (λ (b : Bool). cond b (mirrors k) (k ∷ [])) (lt-leb 2 plan l))
 
 -- plans 2 to 4: all its mirrors
 pub row-mirrors :
-    (plan d from count owner : ℕ) (k members : List ℤ) (owners : List ℕ) (whole : Bool) → 2 ≤ plan
-    → Mirroring d d from count owner k members owners whole → RowMembers plan d from count owner k members owners whole
-row-mirrors plan d from count owner k members owners whole l t = record {
-  room = t.room;
+    (plan d from owner : ℕ) (k : List ℤ) (m : Members) → 2 ≤ plan → Mirroring d d from owner k m → RowMembers plan d from owner k m
+row-mirrors plan d from owner k m l t = record {
+  few_axes = t.few_axes;
   few = t.few;
   within = t.within;
   owned = t.owned;
-  kin = λ s m. subst (Memᴰ s) (sym many) (t.kin s m);
-  all = λ w s m. let i = subst (Memᴰ s) many m in t.all w s i (same_end k s d t.size i);
+  kin = λ s i. subst (Memᴰ s) (sym many) (t.kin s i);
+  all = λ w s i. let j = subst (Memᴰ s) many i in t.all w s j (same_end k s d t.size j);
 }
   where
     many : mirrors_under plan k ≡ mirrors k
     many = ap (λ (b : Bool). cond b (mirrors k) (k ∷ [])) (le-leb 2 plan l)
 
 -- ---- the members of a list
--- of no row
-pub gathering_none : (plan d : ℕ) (members : List ℤ) (owners : List ℕ) → MemberRoom d members owners → Gathering plan d 0 true [] members owners
-gathering_none plan d members owners r = record {
-  known = record { few = zero-le; room = r; kin = λ e l. absurd (omega arith) };
-  all = λ w. record { there = λ i l. absurd (omega arith) };
-}
-
 -- of one row more: the members before it stay
-module _ (plan d from count : ℕ) (ks : List (List ℤ)) (k old new : List ℤ) (owners owners' : List ℕ) (was here : Bool)
-    (g : Gathering plan d from was ks old owners) (s : MembersStay d from old new owners owners')
-    (r : RowMembers plan d from count (length ks) k new owners' here) where
+module _ (plan d : ℕ) (ks : List (List ℤ)) (k : List ℤ) (old new : Members) (g : Gathering plan d ks old) (s : MembersStay d old.count old new)
+    (r : RowMembers plan d old.count (length ks) k new) where
   -- the rows before it keep their numbers
   before : (i : ℕ) → i < length ks → get_or (ks ++ (k ∷ [])) i [] ≡ get_or ks i []
   before i l = get_or-append ks (k ∷ []) [] i l
@@ -376,52 +332,53 @@ module _ (plan d from count : ℕ) (ks : List (List ℤ)) (k old new : List ℤ)
   last i e = ap (λ (j : ℕ). get_or (ks ++ (k ∷ [])) j []) e ∙ get_or-append_seam ks k [] []
 
   -- a member that was there
-  stayed : (e : ℕ) → e < from → get_or (rows_of d count new) e [] ≡ get_or (rows_of d from old) e []
-  stayed e l = row_among d count from e new (omega (arith, r.within)) l ∙ ap (λ (ls : List (List ℤ)). get_or ls e []) s.rows
+  stayed : (e : ℕ) → e < old.count → get_or (members_of d new) e [] ≡ get_or (members_of d old) e []
+  stayed e l =
+      row_among d new.count old.count e new.rows (omega (arith, r.within)) l ∙ ap (λ (ls : List (List ℤ)). get_or ls e []) s.rows
 
   -- each member is one of a row's mirrors
   kin :
-      (e : ℕ) → e < count → Dec (from ≤ e)
-      → (get_or owners' e 0 < length (ks ++ (k ∷ []))) × Memᴰ (get_or (rows_of d count new) e []) (mirrors_under plan (get_or (ks ++ (k ∷ [])) (get_or owners' e 0) []))
+      (e : ℕ) → e < new.count → Dec (old.count ≤ e)
+      → (get_or new.owners e 0 < length (ks ++ (k ∷ []))) × Memᴰ (get_or (members_of d new) e []) (mirrors_under plan (get_or (ks ++ (k ∷ [])) (get_or new.owners e 0) []))
   kin e l (yes f) = (
     omega (arith, r.owned e f l, length-append ks (k ∷ [])),
-    subst (λ (h : List ℤ). Memᴰ (get_or (rows_of d count new) e []) (mirrors_under plan h)) (sym (last (get_or owners' e 0) (r.owned e f l)))
-        (r.kin (get_or (rows_of d count new) e []) (row-behind d from count e new f l)),
+    subst (λ (h : List ℤ). Memᴰ (get_or (members_of d new) e []) (mirrors_under plan h)) (sym (last (get_or new.owners e 0) (r.owned e f l)))
+        (r.kin (get_or (members_of d new) e []) (row-behind d old.count new.count e new.rows f l)),
   )
   kin e l (no f) =
-      let i : e < from = omega arith in
+      let i : e < old.count = omega arith in
       let p = g.known.kin e i in
       let o = s.owned e i in (
         omega (arith, p.0, o, length-append ks (k ∷ [])),
-        subst (λ (h : List ℤ). Memᴰ (get_or (rows_of d count new) e []) (mirrors_under plan h))
-            (sym (ap (λ (j : ℕ). get_or (ks ++ (k ∷ [])) j []) o ∙ before (get_or owners e 0) p.0))
+        subst (λ (h : List ℤ). Memᴰ (get_or (members_of d new) e []) (mirrors_under plan h))
+            (sym (ap (λ (j : ℕ). get_or (ks ++ (k ∷ [])) j []) o ∙ before (get_or old.owners e 0) p.0))
             (Memᴰ.cast (stayed e i) p.1),
       )
 
   -- and each of these a member
   there :
-      was ≡ true → here ≡ true → (i : ℕ) → i < length (ks ++ (k ∷ [])) → Dec (length ks ≤ i)
-      → (t : List ℤ) → Memᴰ t (mirrors_under plan (get_or (ks ++ (k ∷ [])) i [])) → MemberAt d count i new owners' t
-  there w h i l (yes f) t m =
-      found (place_of (members_from d from count new) t [] (r.all h t (subst (λ (u : List ℤ). Memᴰ t (mirrors_under plan u)) (last i is) m)))
+      new.whole ≡ true → (i : ℕ) → i < length (ks ++ (k ∷ [])) → Dec (length ks ≤ i)
+      → (t : List ℤ) → Memᴰ t (mirrors_under plan (get_or (ks ++ (k ∷ [])) i [])) → MemberAt d i new t
+  there w i l (yes f) t m =
+      found (place_of (members_from d old.count new) t [] (r.all w t (subst (λ (u : List ℤ). Memᴰ t (mirrors_under plan u)) (last i is) m)))
     where
       is : i ≡ length ks
       is = omega (arith, length-append ks (k ∷ []))
 
-      found : Place (members_from d from count new) t [] → MemberAt d count i new owners' t
+      found : Place (members_from d old.count new) t [] → MemberAt d i new t
       found p = record {
-        place = from + p.index;
+        place = old.count + p.index;
         inside = inner;
-        owned = r.owned (from + p.index) (omega arith) inner ∙ sym is;
-        is = sym (get_or-drop from (rows_of d count new) p.index []) ∙ p.is;
+        owned = r.owned (old.count + p.index) (omega arith) inner ∙ sym is;
+        is = sym (get_or-drop old.count (members_of d new) p.index []) ∙ p.is;
       }
         where
-          inner : from + p.index < count
-          inner = omega (arith, p.inside, rows-from-length d from count new)
-  there w h i l (no f) t m =
-      moved ((g.all w).there i (omega arith) t (subst (λ (u : List ℤ). Memᴰ t (mirrors_under plan u)) (before i (omega arith)) m))
+          inner : old.count + p.index < new.count
+          inner = omega (arith, p.inside, rows-from-length d old.count new.count new.rows)
+  there w i l (no f) t m =
+      moved ((g.all (s.was w)).there i (omega arith) t (subst (λ (u : List ℤ). Memᴰ t (mirrors_under plan u)) (before i (omega arith)) m))
     where
-      moved : MemberAt d from i old owners t → MemberAt d count i new owners' t
+      moved : MemberAt d i old t → MemberAt d i new t
       moved p = record {
         place = p.place;
         inside = omega (arith, p.inside, r.within);
@@ -430,22 +387,19 @@ module _ (plan d from count : ℕ) (ks : List (List ℤ)) (k old new : List ℤ)
       }
 
   -- both together; all are there where they were before and all of this row are
-  pub gathering_more : (whole : Bool) → (whole ≡ true → (was ≡ true) × (here ≡ true)) → Gathering plan d count whole (ks ++ (k ∷ [])) new owners'
-  gathering_more whole both = record {
-    known = record { few = r.few; room = r.room; kin = λ e l. kin e l (dec_le from e) };
-    all = λ w. let b = both w in record { there = λ i l t m. there b.0 b.1 i l (dec_le (length ks) i) t m };
+  gathering_more : Gathering plan d (ks ++ (k ∷ [])) new
+  gathering_more = record {
+    known = record { few = r.few; few_axes = r.few_axes; kin = λ e l. kin e l (dec_le old.count e) };
+    all = λ w. record { there = λ i l t m. there w i l (dec_le (length ks) i) t m };
   }
 
 -- the same by the row's number
 pub gathering-next :
-    (plan d i from count : ℕ) (rows k old new : List ℤ) (owners owners' : List ℕ) (was here whole : Bool) → k ≡ take d (drop (i * d) rows)
-    → Gathering plan d from was (rows_of d i rows) old owners → MembersStay d from old new owners owners'
-    → RowMembers plan d from count i k new owners' here → (whole ≡ true → (was ≡ true) × (here ≡ true))
-    → Gathering plan d count whole (rows_of d (i + 1) rows) new owners'
-gathering-next plan d i from count rows k old new owners owners' was here whole e g s r both =
-    subst (λ (ks : List (List ℤ)). Gathering plan d count whole ks new owners') (sym more)
-    (gathering_more plan d from count (rows_of d i rows) k old new owners owners' was here g s
-    (subst (λ (o : ℕ). RowMembers plan d from count o k new owners' here) (sym (rows-length d i rows)) r) whole both)
+    (plan d i : ℕ) (rows k : List ℤ) (old new : Members) → k ≡ row_at d rows i → Gathering plan d (rows_of d i rows) old
+    → MembersStay d old.count old new → RowMembers plan d old.count i k new → Gathering plan d (rows_of d (i + 1) rows) new
+gathering-next plan d i rows k old new e g s r =
+    subst (λ (ks : List (List ℤ)). Gathering plan d ks new) (sym more)
+    (gathering_more plan d (rows_of d i rows) k old new g s (subst (λ (o : ℕ). RowMembers plan d old.count o k new) (sym (rows-length d i rows)) r))
   where
     more : rows_of d (i + 1) rows ≡ rows_of d i rows ++ (k ∷ [])
     more =
@@ -455,7 +409,7 @@ gathering-next plan d i from count rows k old new owners owners' was here whole 
 
 -- a row of a list has no larger components than the list
 pub row_small :
-    (d i : ℕ) (rows k : List ℤ) → SmallRow rows → k ≡ take d (drop (i * d) rows) → length k ≡ d → SmallRow k
+    (d i : ℕ) (rows k : List ℤ) → SmallRow rows → k ≡ row_at d rows i → length k ≡ d → SmallRow k
 row_small d i rows k h e l j = go (dec_le d j)
   where
     go : Dec (d ≤ j) → nat_abs (get_or k j (pos 0)) ≤ largest_component
@@ -465,41 +419,34 @@ row_small d i rows k h e l j = go (dec_le d j)
         (sym (ap (λ (r : List ℤ). get_or r j (pos 0)) e ∙ get_or-take d (drop (i * d) rows) j (pos 0) (omega arith) ∙ get_or-drop (i * d) rows j (pos 0)))
         (h (i * d + j))
 
--- ---- what the members of a valid list are
--- a row of S(k) has k's sizes, under every plan
-under-sizes : (plan : ℕ) (k s : List ℤ) → Memᴰ s (mirrors_under plan k) → sizes s ≡ sizes k
-under-sizes plan k s = go (leb 2 plan)
-  where
-    go : (b : Bool) → Memᴰ s (cond b (mirrors k) (k ∷ [])) → sizes s ≡ sizes k
-    go true m = mirror-sizes k s m
-    go false m = ap sizes (Memᴰ.eq_of_singleton m)
+-- ---- adding one
+-- member i, as it is read
+member_is : (d i : ℕ) (m : Members) (row : List ℤ) → i < m.count → row ≡ row_at d m.rows i → row ≡ get_or (members_of d m) i []
+member_is d i m row l e = e ∙ sym (row_at_lem d m.count m.rows i l)
 
-module _ (plan d count : ℕ) (rows members : List ℤ) (owners : List ℕ) (v : ValidList plan d rows)
-    (t : Members plan d count (index_list d rows) members owners) (e : ℕ) (l : e < count) where
-  -- d components each
-  pub member_length : length (get_or (rows_of d count members) e []) ≡ d
-  member_length =
-      row-size d count e members l
-      (omega (arith, mul-le-mul_right {m = count} {n = most_members} d t.few, t.room.few_axes, t.room.rows))
+-- and with the other sign at the axis
+pub flip-is :
+    (d i axis : ℕ) (m : Members) (row h : List ℤ) → i < m.count → row ≡ row_at d m.rows i → h ≡ flip axis row
+    → h ≡ flip axis (get_or (members_of d m) i [])
+flip-is d i axis m row h l e f = f ∙ ap (flip axis) (member_is d i m row l e)
 
-  -- none of them large
-  pub member_small : SmallRow (get_or (rows_of d count members) e [])
-  member_small j = omega (arith, sizes_at s k (under-sizes plan k s (t.kin e l).1) j, row_small d o rows k v.small is size j)
-    where
-      s : List ℤ
-      s = get_or (rows_of d count members) e []
+-- its components are no larger than those of differences
+pub member_covered :
+    (d i : ℕ) (m : Members) (row : List ℤ) → i < m.count → row ≡ row_at d m.rows i → SmallRow (get_or (members_of d m) i [])
+    → Covered largest_size row
+member_covered d i m row l e f =
+    subst (Covered largest_size) (sym (member_is d i m row l e)) (record { narrow = omega arith; covered = λ j. omega (arith, f j) })
 
-      o : ℕ
-      o = get_or owners e 0
+-- a row that is copied behind the others comes behind them
+pub pushed-row :
+    (row rows : List ℤ) (m : Members) → length row ≤ axes → length m.rows ≡ most_members * axes → m.count < most_members
+    → rows ≡ paste m.rows (m.count * length row) row (length row)
+    → rows_of (length row) (m.count + 1) rows ≡ members_of (length row) m ++ (row ∷ [])
+pushed-row row rows m f e l p =
+    ap (rows_of (length row) (m.count + 1)) p ∙ row_joined (length row) m.count m.rows row refl (member_room (length row) m f e l)
 
-      k : List ℤ
-      k = get_or (index_list d rows) o []
-
-      inside : o < row_count d rows
-      inside = omega (arith, (t.kin e l).0, rows-length d (row_count d rows) rows)
-
-      is : k ≡ take d (drop (o * d) rows)
-      is = row_at_lem d (row_count d rows) rows o inside
-
-      size : length k ≡ d
-      size = row-size d (row_count d rows) o rows inside (omega (arith, v.whole))
+-- the same row in other words
+pub pushed-as :
+    (d owner : ℕ) (h k : List ℤ) (old new : Members) → h ≡ k → length h ≡ d → Pushed (length h) h owner old new → Pushed d k owner old new
+pushed-as d owner h k old new e l p =
+    subst (λ (n : ℕ). Pushed n k owner old new) l (subst (λ (r : List ℤ). Pushed (length h) r owner old new) e p)

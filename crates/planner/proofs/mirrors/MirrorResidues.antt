@@ -41,9 +41,6 @@ module _ (x : ℤ) (h : nat_abs x ≤ largest_size) where
   pub minus_is : to_z w16 (of_z w16 (pos 0 -ℤ to_z w16 (of_z w16 x))) ≡ neg_ℤ x
   minus_is = to_z-of_z minus_fits ∙ minus
 
-  pub minus_small : nat_abs (to_z w16 (of_z w16 (pos 0 -ℤ to_z w16 (of_z w16 x)))) ≤ largest_size
-  minus_small = omega (arith, ap nat_abs minus_is, neg_small)
-
 -- ---- how many mirrors
 -- a row of at most m components has at most 2 ^ m mirrors
 pub mirrors_few : (k : List ℤ) (m : ℕ) → length k ≤ m → length (mirrors k) ≤ 2 ^ m
@@ -315,10 +312,6 @@ module _ {n : ℕ} {z : List ℕ} {k : List ℤ} {table : List ℕ} (ready : Row
     turned_product =
         ready.prepared.products.entry j (neg_ℤ (get_or k j (pos 0))) (omega (arith, s.inside))
         (omega (arith, size-neg (get_or k j (pos 0)), ready.prepared.covers.covered j))
-
-  -- at axis 0: all mirrors
-  pub doubling_end : {out : List ℕ} {count : ℕ} → Doubling n z k out count 0 → take (length (mirrors k)) out ≡ map (residue_at n (map pos z)) (mirrors k)
-  doubling_end {out} s = ap (λ (i : ℕ). take i out) (sym s.number) ∙ s.residues
 
 -- ---- what the residues of a row's mirrors ask holds for each row of a list
 module _ (d : ℕ) (xs : List ℤ) (n : ℕ) (z table : List ℕ) (i : ℕ) (r : Ready d xs n z table) (l : i < row_count d xs) where

@@ -2,15 +2,14 @@
 -- a sum of entries.
 use mathlib.Core.Path.{◌≡◌, refl, sym, ◌∙◌, ap}
 use mathlib.Core.Logic.{◌≢◌}
-use mathlib.Core.Bool.{true, false}
+use mathlib.Core.Bool.{false}
 use mathlib.Core.List.{List, [], ◌∷◌, ◌++◌, map}
 use Prim.Native.Nat.{ℕ, zero, suc, ◌+◌, ◌*◌, ◌-◌, ◌/◌, ◌%◌, ◌<◌, ◌≤◌, zero-le}
-use native.Mathlib.Nat.{zero-add, add-zero, add_comm, zero-mul, suc-mul, mul-suc, mul-mod_right, zero-mod, mod_self, sub-zero, mod-lt, mod-eq_of_lt, mod-eq-sub-mod, mod-add-mod, div-add-mod}
+use native.Mathlib.Nat.{add-zero, zero-mul, suc-mul, mul-suc, mul-mod_right, zero-mod, mod_self, sub-zero, mod-lt, mod-add-mod, div-add-mod}
 use native.Mathlib.Numerals.{add-one}
 use native.Mathlib.Omega.{arith}
 use borrow.Author.Count.{below_more}
-use borrow.Author.Tests.{ltb-true, le-ltb}
-use lib.IntN.{ℤ, pos, negsuc, nat_abs, ◌+ℤ◌, ◌-ℤ◌, ◌*ℤ◌, +ℤ_idl}
+use lib.IntN.{ℤ, pos, negsuc, nat_abs, ◌*ℤ◌, +ℤ_idl}
 use lib.ListN.{length, get_or, take, drop, set, replicate, length-set, drop_of_length-le}
 use lib.Seq.{length-take-le, drop-cons, get_or-take, get_or-drop, get_or-set_same, get_or-set_other}
 use lib.Signed.{lt_z}
@@ -20,7 +19,7 @@ use mir.Facts.{to_z-of_z}
 use Rattle.rank1.specs.Residue.{residue, dot}
 use Rattle.rank1.proofs.ResidueLaws.{residue-mod, residue-lt, residue_is}
 use Rattle.rank1.proofs.DotLaws.{dot-turn}
-use Rattle.planner.specs.Sizes.{axes, largest_size, middle, places, product_room}
+use Rattle.planner.specs.Sizes.{largest_size, middle, places, product_room}
 use Rattle.planner.specs.Inner.{place, Products, KeptBelow, AxisSet, Covered, Prepared}
 
 -- ---- a component, its sign and its place
@@ -33,43 +32,20 @@ small_fits (negsuc a) h = record { sfits = omega arith }
 pub read_back : (x : ℤ) → nat_abs x ≤ largest_size → to_z w16 (of_z w16 x) ≡ x
 read_back x h = to_z-of_z (small_fits x h)
 
--- the negative of a number below 0 is its size
-pub opposite : (x : ℤ) → lt_z x (pos 0) ≡ true → pos 0 -ℤ x ≡ pos (nat_abs x)
-opposite (pos a) e = absurd (impossible (ltb-true a 0 e))
-  where
-    impossible : a < 0 → ⊥
-    impossible h = omega arith
-opposite (negsuc a) e = ap pos (zero-add (suc a))
-
 -- a number that is not below 0 is its own size
 pub itself : (x : ℤ) → lt_z x (pos 0) ≡ false → x ≡ pos (nat_abs x)
 itself (pos a) e = refl
 itself (negsuc a) e = absurd (let z : ◌≡◌ {A = ℕ} 0 1 = cc in omega arith)
 
--- a component and the middle is its place
-pub place_is : (x : ℤ) → nat_abs x ≤ largest_size → x +ℤ pos middle ≡ pos (place x)
-place_is (pos a) h = ap pos (add_comm a middle)
-place_is (negsuc a) h = rw (le-ltb middle (suc a) (omega arith)) (ap pos (omega arith))
-
--- it is one of its axis
+-- the place of a component is one of its axis
 pub place-lt : (x : ℤ) → nat_abs x ≤ largest_size → place x < places
 place-lt (pos a) h = omega arith
 place-lt (negsuc a) h = omega arith
-
--- a place fits an i16
-pub place_fits : (x : ℤ) → nat_abs x ≤ largest_size → SFits w16 (pos (place x))
-place_fits x h = record { sfits = omega (arith, place-lt x h) }
 
 -- ---- residues of negatives and of sums
 -- 0 is its own negative
 pub negative_zero : (n : ℕ) → (n - 0) % n ≡ 0
 negative_zero n = ap (λ (k : ℕ). k % n) (sub-zero n) ∙ mod_self n
-
--- a sum of two residues that is not below n
-pub sum_over : (n s : ℕ) → n ≤ s → s < n + n → (s % n ≡ s - n) × (s - n < n)
-sum_over n s l h =
-    let k : s - n < n = omega arith in
-    (mod-eq-sub-mod l ∙ mod-eq_of_lt k, k)
 
 -- the residue of a product with a negative number
 pub negative-product : (n a v : ℕ) → 0 < n → residue n (negsuc a *ℤ pos v) ≡ (n - (suc a * v) % n) % n
@@ -176,10 +152,6 @@ set_more n v axis x p q old new h low room isp isq s = record {
         place_down : axis * places + (middle - suc a) ≡ m - x
         place_down = omega arith
 
--- the residue of the first multiple of v
-pub first_multiple : (n v : ℕ) → 0 ≡ (0 * v) % n
-first_multiple n v = sym (ap (λ (k : ℕ). k % n) (zero-mul v) ∙ zero-mod n)
-
 -- the residue of the next multiple of v
 pub next_multiple : (n v x p : ℕ) → p ≡ (x * v) % n → (p + v) % n ≡ ((x + 1) * v) % n
 next_multiple n v x p e =
@@ -215,15 +187,6 @@ set_products n top j z old new narrow h p s = record {
     at x b = s.entry x b ∙ ap (λ (k : ℕ). residue n (x *ℤ pos k)) (sym (get_or-take (suc j) z j 0 (omega arith)))
 
 -- ---- lists of components
--- covered, by the components that a list has: past its end there is only 0
-pub covered_all : (top : ℕ) (xs : List ℤ) → top ≤ largest_size → ((i : ℕ) → i < length xs → nat_abs (get_or xs i (pos 0)) ≤ top) → Covered top xs
-covered_all top xs h all = record { narrow = h; covered = λ i. each xs i all }
-  where
-    each : (xs : List ℤ) (i : ℕ) → ((k : ℕ) → k < length xs → nat_abs (get_or xs k (pos 0)) ≤ top) → nat_abs (get_or xs i (pos 0)) ≤ top
-    each [] i f = zero-le
-    each (x ∷ xs) zero f = f 0 (omega arith)
-    each (x ∷ xs) (suc i) f = each xs i (λ k l. f (suc k) (omega arith))
-
 -- covered by a larger top too
 pub covered_wider : (top more : ℕ) (xs : List ℤ) → top ≤ more → more ≤ largest_size → Covered top xs → Covered more xs
 covered_wider top more xs l h c = record { narrow = h; covered = λ i. omega (arith, c.covered i) }
@@ -286,10 +249,6 @@ module _ (n : ℕ) (z : List ℕ) (xs : List ℤ) (table : List ℕ) (p : Prepar
   pub entry_lt : (i j : ℕ) → 0 < n → j < length z → get_or table (j * places + place (get_or xs i (pos 0))) 0 < n
   entry_lt i j l h = rw (entry_is i j h) (residue-lt n (get_or xs i (pos 0) *ℤ pos (get_or z j 0)) l)
 
-  -- the entry stands in the table
-  pub entry_in : (i j : ℕ) → j < axes → j * places + place (get_or xs i (pos 0)) < length table
-  entry_in i j h = omega (arith, place-lt (get_or xs i (pos 0)) (component_small i), p.products.size)
-
 -- ---- the residue of a row: what is left of it after j components
 -- a turn adds the entry of component j
 pub row-turn : (row : List ℤ) (z : List ℕ) (n s t j : ℕ) → 0 < n → j < length row → j < length z → t ≡ residue n (get_or row j (pos 0) *ℤ pos (get_or z j 0)) → (s + t + residue n (dot (drop (j + 1) row) (map pos (drop (j + 1) z)))) % n ≡ (s + residue n (dot (drop j row) (map pos (drop j z)))) % n
@@ -297,11 +256,6 @@ row-turn row z n s t j h a b e =
     rw (add-one j, drop-cons row j (pos 0) a, drop-cons z j 0 b)
     (dot-turn n s t (get_or row j (pos 0)) (pos (get_or z j 0)) (drop (suc j) row) (map pos (drop (suc j) z)) h
     (ap (λ (k : ℕ). k % n) e ∙ residue-mod n (get_or row j (pos 0) *ℤ pos (get_or z j 0)) h))
-
--- at the start all is left
-pub row_started : (row : List ℤ) (z : List ℕ) (n : ℕ) → 0 < n → (0 + residue n (dot row (map pos z))) % n ≡ residue n (dot row (map pos z))
-row_started row z n h =
-    ap (λ (k : ℕ). k % n) (zero-add (residue n (dot row (map pos z)))) ∙ residue-mod n (dot row (map pos z)) h
 
 -- no components of z, no sum
 dot_none : (row : List ℤ) → dot row [] ≡ pos 0

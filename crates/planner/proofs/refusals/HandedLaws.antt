@@ -3,7 +3,7 @@
 use mathlib.Core.Path.{◌≡◌, refl, sym, ◌∙◌, ap}
 use mathlib.Core.Bool.{Bool, true, not}
 use mathlib.Core.List.{List, [], ◌∷◌, ◌++◌, map, Memᴰ}
-use Prim.Native.Nat.{ℕ, ◌*◌, ◌≤◌}
+use Prim.Native.Nat.{ℕ, zero, suc, ◌*◌, ◌≤◌}
 use native.Mathlib.Omega.{arith}
 use lib.IntN.{ℤ, pos}
 use lib.ListN.{length, get_or}
@@ -17,7 +17,7 @@ use Rattle.rank1.specs.Points.{line_count}
 use Rattle.rank1.specs.Valid.{ValidModulus, ValidCall}
 use Rattle.rank1.specs.Refusal.{refuse, first_of, bad_plan, bad_map_plan, bad_axes, bad_places, inadmissible, ungatherable, list_conditions, pair_conditions, table_conditions, map_refusal, spread_refusal, gather_refusal, point_refusal}
 use Rattle.rank1.proofs.RefusalLaws.{first_of-append, first_of_none, first_of_none_append}
-use Rattle.rank1.proofs.ValidLaws.{map_plan_clear, axes_clear, valid_pair, places_clear, rule_clear, sums_clear}
+use Rattle.rank1.proofs.ValidLaws.{plan_clear, map_plan_clear, axes_clear, valid_pair, places_clear, rule_clear, sums_clear}
 use Rattle.rank1.proofs.GatherLaws.{reads_passes}
 use Rattle.planner.proofs.CallLaws.{valid_table}
 
@@ -42,12 +42,24 @@ pub record GatherHanded (plan d : ℕ) (xs : List ℤ) (n : ℕ) (z : List ℕ) 
 
 -- point list: a valid pair, and d places a line
 pub record PointsHanded (plan d n : ℕ) (z : List ℕ) (places : ℕ) : Type 0 where
+  pub plans : plan ≤ 4
   pub few_axes : d ≤ 6
   pub modulus : ValidModulus n
   pub vector : InRange n d z
   pub room : places ≡ line_count plan n * d
 
 module _ (plan d : ℕ) (xs : List ℤ) (n : ℕ) (z : List ℕ) where
+  -- ---- a call's conditions in the parts in which the code tests them
+  pub map_parts : (places : ℕ) → map_refusal plan d xs n z places ≡ first_of (first_of (table_conditions plan d xs n z) ∷ bad_places places (2 * row_count d xs) ∷ inadmissible plan (index_list d xs) n z ∷ [])
+  unfolding map_refusal
+  map_parts places = first_of-append (table_conditions plan d xs n z) (bad_places places (2 * row_count d xs) ∷ inadmissible plan (index_list d xs) n z ∷ [])
+
+  pub spread_parts : (terms sums : ℕ) → spread_refusal plan d xs n z terms sums ≡ first_of (first_of (table_conditions plan d xs n z) ∷ bad_places terms (row_count d xs) ∷ bad_places sums n ∷ inadmissible plan (index_list d xs) n z ∷ [])
+  unfolding spread_refusal
+  spread_parts terms sums =
+      first_of-append (table_conditions plan d xs n z) (bad_places terms (row_count d xs) ∷ bad_places sums n ∷ inadmissible plan (index_list d xs) n z ∷ [])
+
+  -- ---- a call that is not refused
   pub map_clear : (places : ℕ) → map_refusal plan d xs n z places ≡ 0 → MapHanded plan d xs n z places
   unfolding map_refusal
   map_clear places none =
@@ -109,6 +121,19 @@ module _ (plan d : ℕ) (xs : List ℤ) (n : ℕ) (z : List ℕ) where
       ∙ ap (λ (t : Bool). first_of (spread_refusal plan d xs n z terms (length sums') ∷ refuse 11 (not t) ∷ [])) (reads_passes plan n (map pos z) (index_list d xs) sums sums' same)
       ∙ sym (gather_as_spread sums' terms)
 
+pub point_parts : (plan d n : ℕ) (z : List ℕ) (places : ℕ) → point_refusal plan d n z places ≡ first_of (bad_plan plan ∷ bad_axes d ∷ first_of (pair_conditions d n z) ∷ bad_places places (line_count plan n * d) ∷ [])
+unfolding point_refusal
+point_parts plan d n z places =
+    let room = bad_places places (line_count plan n * d) in
+    let all = pair_conditions d n z ++ (room ∷ []) in
+    let parts = first_of (pair_conditions d n z) ∷ room ∷ [] in
+    first_rest (bad_plan plan) (bad_axes d ∷ all) (bad_axes d ∷ parts)
+    (first_rest (bad_axes d) all parts (first_of-append (pair_conditions d n z) (room ∷ [])))
+  where
+    first_rest : (k : ℕ) (ks ls : List ℕ) → first_of ks ≡ first_of ls → first_of (k ∷ ks) ≡ first_of (k ∷ ls)
+    first_rest zero ks ls e = e
+    first_rest (suc k) ks ls e = refl
+
 pub point_clear : (plan d n : ℕ) (z : List ℕ) (places : ℕ) → point_refusal plan d n z places ≡ 0 → PointsHanded plan d n z places
 unfolding point_refusal
 point_clear plan d n z places none =
@@ -119,6 +144,7 @@ point_clear plan d n z places none =
     let last = (first_of_none_append pair (room ∷ [])).0 axes.1 in
     let valid = valid_pair d n z last.0 in
     record {
+      plans = (plan_clear plan).0 named.0;
       few_axes = ((axes_clear d).0 axes.0).1;
       modulus = valid.0;
       vector = valid.1;

@@ -1,30 +1,34 @@
--- `residue_map` meets its contract: a refusal leaves the lent places (`refused`); past it the arguments are what `write_map`
--- asks for (`map_clear`), and what it writes is the answer (`given`).
-use mathlib.Core.Path.{refl, sym, ◌∙◌}
+-- `residue_map` meets its contract: where nothing is refused the arguments are what `write_map` asks for (`map_clear`), and what it writes is the answer
+-- (`given`).
+use mathlib.Core.Path.{refl, sym}
 use lib.ListN.{length}
-use Rattle.planner.proofs.CallLaws.{refused, given}
+use Rattle.planner.proofs.CallLaws.{given, given_valid}
 use Rattle.planner.proofs.refusals.HandedLaws.{MapHanded, map_clear}
 use Rattle.planner.proofs.residue_map.Goals as goal
-use Rattle.planner.proofs.residue_map.Goals.{Else-map_refused-ne0}
+use Rattle.planner.proofs.residue_map.Goals.{In_ok-rows}
 
-pub returns-then-map_refused-ne0 : goal.returns-then-map_refused-ne0
-returns-then-map_refused-ne0 c = refused c.map_refusal-map_refused.ensures c.if-map_refused-ne0.true
-
-handed : (c : Else-map_refused-ne0) → let a = c.args in MapHanded a.plan a.d a.rows.now a.n a.z.now (length a.out.now)
+handed : (c : In_ok-rows) → let a = c.args in MapHanded a.plan a.d a.rows.now a.n a.z.now (length a.out.now)
 handed c =
     let a = c.args in
-    map_clear a.plan a.d a.rows.now a.n a.z.now (length a.out.now) (sym c.map_refusal-map_refused.ensures ∙ c.if-map_refused-ne0.false)
+    map_clear a.plan a.d a.rows.now a.n a.z.now (length a.out.now) (sym c.in_ok-rows.ensures.number)
 
-pub prepare_rows-requires : goal.prepare_rows-requires
-prepare_rows-requires c =
-    record { valid_call = (handed (goal.at.prepare_rows-requires c).Else-map_refused-ne0).valid; products_len = refl }
+pub of-lattice-requires : goal.of-lattice-requires
+of-lattice-requires c =
+    given_valid c.in_ok-rows.ensures.given (handed (goal.at.of-lattice-requires c).In_ok-rows).valid
 
 pub write_map-requires : goal.write_map-requires
 write_map-requires c =
-    let h = handed (goal.at.write_map-requires c).Else-map_refused-ne0 in
-    record { ready = c.prepare_rows.ensures; out_len = h.room }
+    let h = handed (goal.at.write_map-requires c).In_ok-rows in
+    let g = c.in_ok-rows.ensures.given in
+    record { ready = c.of-lattice.ensures.ready; out_len = rw g.axes (rw g.numbers h.room) }
 
 pub returns : goal.returns
 returns c =
-    let w = c.write_map in
-    given c.map_refusal-map_refused.ensures c.if-map_refused-ne0.false w.ensures
+    let g = c.in_ok-rows.ensures.given in
+    let named = rw g.plans at c.write_map.ensures in
+    let counted = rw g.axes at named in
+    let m = c.of-lattice.ensures.made in
+    let listed = rw g.numbers at counted in
+    let modulus = rw m.0 at listed in
+    let wrote = rw m.1 at modulus in
+    given c.in_ok-rows.ensures.number refl wrote

@@ -12,7 +12,7 @@ use lib.Dec.{eqb}
 use lib.ListN.{length, get_or, set}
 use lib.Seq.{get_or-set_same, get_or-set_other}
 use Rattle.rank1.specs.Tests.{Decides}
-use Rattle.planner.specs.Inner.{Owners, Clear, clash}
+use Rattle.planner.specs.Inner.{Owners, clash}
 
 -- an answer that is known decides
 pub decides_yes : {P : Type 0} → P → Decides true P
@@ -60,12 +60,6 @@ module _ (f : ℕ → ℕ) where
   AllApart m = (a b : ℕ) → a < m → b < m → a ≢ b → f a ≢ f b
 
 module _ (f : ℕ → ℕ) (n : ℕ) where
-  pub owners_none : (table : List ℕ) → Clear n table → Owners f n 0 table
-  owners_none table clear = record {
-    told = λ a l. absurd (omega arith);
-    owns = λ x o l e. absurd (omega (arith, clear x l));
-  }
-
   -- row i takes the residue r, which had no owner
   pub owners_more : (i r : ℕ) (table : List ℕ) → n ≤ length table → r ≡ f i → r < n → get_or table r 0 ≡ 0 → Owners f n i table → Owners f n (i + 1) (set table r (i + 1))
   owners_more i r table room e l free o = record {

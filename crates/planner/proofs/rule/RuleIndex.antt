@@ -4,15 +4,18 @@ use mathlib.Core.Path.{◌≡◌, refl, sym, ◌∙◌, ap, subst}
 use mathlib.Core.Bool.{Bool, true, false, true≢false}
 use mathlib.Core.Logic.{◌↔◌, ◌≢◌, ⊎_elim}
 use mathlib.Core.List.{List, [], map, Memᴰ}
-use Prim.Native.Nat.{ℕ, zero, suc, ◌*◌, ◌<◌, ◌≤◌}
+use Prim.Native.Nat.{ℕ, zero, suc, ◌+◌, ◌-◌, ◌*◌, ◌<◌, ◌≤◌}
 use native.Mathlib.Nat.{zero-mod}
 use native.Mathlib.Omega.{arith}
 use lib.IntN.{ℤ, pos}
-use lib.ListN.{length, get_or, take, drop, get_or-map}
-use lib.Seq.{get_or-take}
+use lib.ListN.{length, get_or, take, drop, length-map, length-drop, get_or-map}
+use lib.Seq.{length-take-le, get_or-take, get_or-drop}
 use Rattle.rank1.specs.Tests.{Decides}
 use Rattle.rank1.specs.Residue.{dot, residue_at}
 use Rattle.rank1.specs.Index.{zero_row, mirrors, row_count, index_list}
+use Rattle.rank1.specs.declared.Plan.{Plan}
+use Rattle.rank1.specs.declared.Plan.TheVariants as plans
+use Rattle.rank1.specs.Named.{plan_number}
 use Rattle.rank1.specs.Rule.{Integrates, Reconstructs, PlanB, PlanC, Admissible}
 use Rattle.rank1.specs.Valid.{Distinct, Nonnegative}
 use Rattle.rank1.proofs.ResidueLaws.{residue-lt}
@@ -68,7 +71,7 @@ module _ (ks : List (List ℤ)) (n : ℕ) (z : List ℤ) where
         (ap (residue_at n z) p.is ∙ e ∙ ap (residue_at n z) (sym q.is))),
   )
 
-  -- ---- plans 3 and 4
+  -- ---- plans B and C
   -- the mirrors of row i from number 1 on, up to number t, have the residue of no row that the plan keeps apart from row i
   abbrev pub MirrorsFree : (plan i t : ℕ) → Type 0
   MirrorsFree plan i t = (s : ℕ) → s < t → 1 ≤ s → Unowned row_residue plan (length ks) i (residue_at n z (mirror i s))
@@ -129,6 +132,14 @@ module _ (ks : List (List ℤ)) (n : ℕ) (z : List ℤ) where
   )
   mirrors-rows (suc (suc (suc (suc (suc p))))) lo hi d unsigned = absurd (omega arith)
 
+-- no plan has a larger number than plan C
+pub few_plans : (plan : Plan) → plan_number plan ≤ 4
+few_plans plans.Integration = omega arith
+few_plans plans.Fourier = omega arith
+few_plans plans.A = omega arith
+few_plans plans.B = omega arith
+few_plans plans.C = omega arith
+
 -- ---- row i of a run, as the loops take it
 module _ (d : ℕ) (xs : List ℤ) (i : ℕ) (l : i < row_count d xs) (k : List ℤ) (e : k ≡ take d (drop (i * d) xs)) where
   -- it is row i of the list
@@ -175,12 +186,13 @@ module _ (d : ℕ) (xs : List ℤ) (n : ℕ) (z owners : List ℕ) where
   pub recorded_rows : (r : Bool) → r ≡ true → Recorded n z (index_list d xs) owners r → Owners (residue_of n z (index_list d xs)) n (row_count d xs) owners
   recorded_rows r e o = subst (λ (m : ℕ). Owners (residue_of n z (index_list d xs)) n m owners) (rows-length d (row_count d xs) xs) (o.all e)
 
-  -- so plan 1 holds
-  pub recorded_holds : (r : Bool) → r ≡ true → Distinct (index_list d xs) → Recorded n z (index_list d xs) owners r → Decides true (Reconstructs (index_list d xs) n (map pos z))
-  recorded_holds r e d' o =
-      decides_yes
-      ((reconstructs_rows (index_list d xs) n (map pos z) d').1
-      (owners_apart (residue_of n z (index_list d xs)) n (length (index_list d xs)) owners (o.all e)))
+  -- it decides the rule of plan 1
+  pub recorded_decides : (r : Bool) → Distinct (index_list d xs) → Recorded n z (index_list d xs) owners r → Decides r (Reconstructs (index_list d xs) n (map pos z))
+  recorded_decides r different o = record {
+    yes = λ e. (reconstructs_rows (index_list d xs) n (map pos z) different).1
+        (owners_apart (residue_of n z (index_list d xs)) n (length (index_list d xs)) owners (o.all e));
+    no = o.clash;
+  }
 
   -- two rows have one residue, so none of the plans holds
   pub recorded_breaks : (plan : ℕ) (r : Bool) → plan ≢ 0 → r ≡ false → Recorded n z (index_list d xs) owners r → Decides false (Admissible plan (index_list d xs) n (map pos z))
@@ -193,20 +205,30 @@ pub record MirrorAt (ks : List (List ℤ)) (n : ℕ) (z : List ℕ) (i t x : ℕ
   pub below : x < n
 
 -- it stands at place t of the residues of the row's mirrors
-pub mirror_at : (d : ℕ) (xs : List ℤ) (n : ℕ) (z : List ℕ) (i t : ℕ) (k : List ℤ) (out : List ℕ) → 1 ≤ n → i < row_count d xs → k ≡ take d (drop (i * d) xs) → take (length (mirrors k)) out ≡ map (residue_at n (map pos z)) (mirrors k) → t < length (mirrors k) → MirrorAt (index_list d xs) n z i t (get_or out t 0)
+pub mirror_at : (d : ℕ) (xs : List ℤ) (n : ℕ) (z : List ℕ) (i t : ℕ) (k : List ℤ) (out : List ℕ) → 1 ≤ n → i < row_count d xs → k ≡ take d (drop (i * d) xs) → out ≡ map (residue_at n (map pos z)) (mirrors k) → t < length out → MirrorAt (index_list d xs) n z i t (get_or out t 0)
 mirror_at d xs n z i t k out low l e residues lt = record {
-  inside = omega (arith, ap (λ (s : List ℤ). length (mirrors s)) (row_number d xs i l k e));
+  inside = omega (arith, ap (λ (s : List ℤ). length (mirrors s)) (row_number d xs i l k e), ap length residues, length-map (mirrors k) (residue_at n (map pos z)));
   is = is;
   below = subst (λ (r : ℕ). r < n) (sym is) (residue-lt n (dot (mirror (index_list d xs) n (map pos z) i t) (map pos z)) low);
 }
   where
     is : get_or out t 0 ≡ residue_at n (map pos z) (mirror (index_list d xs) n (map pos z) i t)
     is =
-        sym (get_or-take (length (mirrors k)) out t 0 lt)
-        ∙ ap (λ (rs : List ℕ). get_or rs t 0) residues
+        ap (λ (rs : List ℕ). get_or rs t 0) residues
         ∙ ap (get_or (map (residue_at n (map pos z)) (mirrors k)) t) (sym (zero-mod n))
         ∙ get_or-map (residue_at n (map pos z)) (mirrors k) t []
         ∙ ap (λ (s : List ℤ). residue_at n (map pos z) (get_or (mirrors s) t [])) (row_number d xs i l k e)
+
+-- ---- the residues behind the first, as a loop over them reads them
+module _ (out : List ℕ) where
+  pub rest-length : length (take (length out - 1) (drop 1 out)) ≡ length out - 1
+  rest-length = length-take-le (length out - 1) (drop 1 out) (omega (arith, length-drop 1 out))
+
+  pub rest_at : (t : ℕ) → t < length (take (length out - 1) (drop 1 out)) → get_or (take (length out - 1) (drop 1 out)) t 0 ≡ get_or out (t + 1) 0
+  rest_at t l =
+      get_or-take (length out - 1) (drop 1 out) t 0 (omega (arith, rest-length))
+      ∙ get_or-drop 1 out t 0
+      ∙ ap (λ (i : ℕ). get_or out i 0) (omega arith)
 
 -- what the table of the owners of all rows says of it
 module _ (plan d : ℕ) (xs : List ℤ) (n : ℕ) (z owners : List ℕ) (o : Owners (residue_of n z (index_list d xs)) n (row_count d xs) owners) (i t x : ℕ) (m : MirrorAt (index_list d xs) n z i t x) where

@@ -10,8 +10,8 @@ use Prim.Native.Nat.{ℕ, suc, ◌+◌, ◌*◌, ◌<◌, ◌≤◌}
 use native.Mathlib.Numerals.{add-one}
 use native.Mathlib.Omega.{arith}
 use lib.IntN.{ℤ, pos}
-use lib.ListN.{length, get_or, take, drop, set, length-map, drop_of_length-le}
-use lib.Seq.{drop-cons, get_or-take, get_or-set_same, get_or-set_other}
+use lib.ListN.{length, get_or, take, drop, set, drop_of_length-le}
+use lib.Seq.{drop-cons, get_or-set_same, get_or-set_other}
 use Rattle.rank1.specs.Residue.{dot, residue_at}
 use Rattle.rank1.specs.Index.{mirrors, mirrored, row_count, index_list}
 use Rattle.rank1.specs.Rule.{PlanA}
@@ -117,30 +117,28 @@ module _ (d : ℕ) (xs : List ℤ) (n : ℕ) (z : List ℕ) where
     pub below : r < n
     pub next : mirrors_left i t ≡ r ∷ mirrors_left i (t + 1)
 
-  -- it stands at place t of the residues of the row's mirrors
-  pub mirror-next : (i t : ℕ) (k : List ℤ) (out : List ℕ) → 0 < n → k ≡ row_of i → t < length (mirrors k) → take (length (mirrors k)) out ≡ residues_of n z (mirrors k) → Next i t (get_or out t 0)
-  mirror-next i t k out p e l h = record {
-    below = residues_below n z (mirrors k) p (get_or out t 0) (Memᴰ.cast (sym entry) (member_at (residues_of n z (mirrors k)) 0 t inside));
-    next =
-        ap (λ (j : List ℤ). drop t (residues_of n z (mirrors j)) ++ rows_left (i + 1)) (sym e)
-        ∙ ap (λ (ys : List ℕ). ys ++ rows_left (i + 1)) (drop-cons (residues_of n z (mirrors k)) t 0 inside)
-        ∙ ap (λ (x : ℕ). x ∷ (drop (suc t) (residues_of n z (mirrors k)) ++ rows_left (i + 1))) entry
-        ∙ ap (λ (j : List ℤ). get_or out t 0 ∷ (drop (suc t) (residues_of n z (mirrors j)) ++ rows_left (i + 1))) e
-        ∙ ap (λ (u : ℕ). get_or out t 0 ∷ mirrors_left i u) (sym (add-one t));
-  }
-    where
-      inside : t < length (residues_of n z (mirrors k))
-      inside = omega (arith, length-map (mirrors k) (residue_at n (map pos z)))
+  -- where `out` has the residues of the row's mirrors
+  module _ (i : ℕ) (k : List ℤ) (out : List ℕ) (e : k ≡ row_of i) (h : out ≡ residues_of n z (mirrors k)) where
+    -- they are left at the start of the row
+    same : residues_of n z (mirrors (row_of i)) ≡ out
+    same = ap (λ (j : List ℤ). residues_of n z (mirrors j)) (sym e) ∙ sym h
 
-      entry : get_or (residues_of n z (mirrors k)) t 0 ≡ get_or out t 0
-      entry = ap (λ (ys : List ℕ). get_or ys t 0) (sym h) ∙ get_or-take (length (mirrors k)) out t 0 l
+    -- the next one stands at place t
+    pub mirror-next : (t : ℕ) → 0 < n → t < length out → Next i t (get_or out t 0)
+    mirror-next t p l = record {
+      below = residues_below n z (mirrors k) p (get_or out t 0) (subst (Memᴰ (get_or out t 0)) h (member_at out 0 t l));
+      next =
+          ap (λ (ys : List ℕ). drop t ys ++ rows_left (i + 1)) same
+          ∙ ap (λ (ys : List ℕ). ys ++ rows_left (i + 1)) (drop-cons out t 0 l)
+          ∙ ap (λ (ys : List ℕ). get_or out t 0 ∷ (drop (suc t) ys ++ rows_left (i + 1))) (sym same)
+          ∙ ap (λ (u : ℕ). get_or out t 0 ∷ mirrors_left i u) (sym (add-one t));
+    }
 
-  -- a row ends: the rows behind it are left
-  pub row_ends : (i t : ℕ) (k : List ℤ) → k ≡ row_of i → length (mirrors k) ≤ t → mirrors_left i t ≡ rows_left (i + 1)
-  row_ends i t k e l =
-      ap (λ (j : List ℤ). drop t (residues_of n z (mirrors j)) ++ rows_left (i + 1)) (sym e)
-      ∙ ap (λ (ys : List ℕ). ys ++ rows_left (i + 1))
-      (drop_of_length-le (residues_of n z (mirrors k)) {i = t} (omega (arith, length-map (mirrors k) (residue_at n (map pos z)))))
+    -- a row ends: the rows behind it are left
+    pub row_ends : (t : ℕ) → length out ≤ t → mirrors_left i t ≡ rows_left (i + 1)
+    row_ends t l =
+        ap (λ (ys : List ℕ). drop t ys ++ rows_left (i + 1)) same
+        ∙ ap (λ (ys : List ℕ). ys ++ rows_left (i + 1)) (drop_of_length-le out {i = t} l)
 
   -- behind the last row nothing is left
   pub rows_end : (i : ℕ) → row_count d xs ≤ i → rows_left i ≡ []

@@ -7,7 +7,9 @@ use native.Mathlib.Omega.{arith}
 use lib.IntN.{ℤ, pos, nat_abs, ◌*ℤ◌}
 use lib.ListN.{get_or, take, get_or-map}
 use lib.Seq.{get_or-take, length-take-le}
+use Rattle.rank1.specs.Named.{plan_number}
 use Rattle.planner.specs.declared.search.Search.{Search}
+use Rattle.planner.specs.declared.tables.ListTables.{ListTables}
 use Rattle.rank1.specs.Residue.{residue, residue_at}
 use Rattle.rank1.specs.Differences.{EndsAt}
 use Rattle.rank1.proofs.DifferenceLaws.{residue-more, struck-out}
@@ -15,7 +17,7 @@ use Rattle.planner.specs.Sizes.{axes, lasts, room, places}
 use Rattle.planner.specs.Inner.{place, Covered}
 use Rattle.planner.specs.Runs.{column}
 use Rattle.planner.specs.Sieve.{part_at, Forbidden, FirstForbidden}
-use Rattle.planner.specs.Stage.{ListTables, rule_of, Tabled, BeginsAs, Prefixed, Fixed, SumsTo}
+use Rattle.planner.specs.Stage.{rule_of, Tabled, BeginsAs, Prefixed, Fixed, SumsTo}
 use Rattle.planner.proofs.runs.RunLaws.{column_at, bounds_rise}
 
 -- the product of a fixed component with a small number
@@ -44,13 +46,13 @@ part-is s at z sums products owners components prefix small within e sum =
     c : ℤ
     c = get_or components (at * room + e) (pos 0)
 
-module _ (s : Search) (T : ListTables) (before : ℕ) (z sums products owners : List ℕ) (fixed : Fixed s T (before + 1) z products owners) (within : suc before < s.d) (set : SumsTo s.n s.d before z T.components T.bounds sums) where
+module _ (s : Search) (rows : List ℤ) (T : ListTables) (before : ℕ) (z sums products owners : List ℕ) (fixed : Fixed s rows T (before + 1) z products owners) (within : suc before < s.d) (set : SumsTo s.n s.d before z T.components T.bounds sums) where
   -- no vector of whole numbers that begins as z and has such a v there meets the rule
   pub forbidden-none :
-      (v : ℕ) → Forbidden s.n before T.components T.bounds products sums v
-      → (y : List ℤ) → BeginsAs (suc before) y z → get_or y (suc before) (pos 0) ≡ pos v → rule_of s.plan s.d T s.n y → ⊥
+      (v : ℕ) → Forbidden s.n before T products sums v
+      → (y : List ℤ) → BeginsAs (suc before) y z → get_or y (suc before) (pos 0) ≡ pos v → rule_of (plan_number s.plan) s.d rows s.n y → ⊥
   forbidden-none v f y begins here =
-      struck-out (rule_of s.plan s.d T) s.n (suc before) f.last v (column s.d T.components f.which) y (map pos z) fixed.prefix.modulus.low
+      struck-out (rule_of (plan_number s.plan) s.d rows) s.n (suc before) f.last v (column s.d T.components f.which) y (map pos z) fixed.prefix.modulus.low
       (fixed.tabled.differenced.sound (column s.d T.components f.which) listed.0) listed.1
       (λ i l. begins i l ∙ sym (get_or-map pos z i 0)) here
       (ap (λ (c : ℕ). (c + f.last * v) % s.n) (sym (part-is s before z sums products owners T.components fixed.prefix fixed.tabled.differenced.small (omega arith) f.which (set.sum before f.which (omega arith) (omega arith) low high))) ∙ f.solved)
@@ -72,10 +74,10 @@ module _ (s : Search) (T : ListTables) (before : ℕ) (z sums products owners : 
 
 -- the same at the first axis, before which nothing stands
 pub first_none :
-    (s : Search) (T : ListTables) (z : List ℕ) → Tabled s.plan s.d s.top s.tail T → 0 < s.n → (v : ℕ) → FirstForbidden s.n T.bounds v
-    → (y : List ℤ) → get_or y 0 (pos 0) ≡ pos v → rule_of s.plan s.d T s.n y → ⊥
-first_none s T z tabled some v f y here =
-    struck-out (rule_of s.plan s.d T) s.n 0 f.last v h y [] some (tabled.differenced.sound h listed.0) listed.1 (λ i l. absurd (omega arith)) here
+    (s : Search) (rows : List ℤ) (T : ListTables) (z : List ℕ) → Tabled (plan_number s.plan) s.d s.top s.tail rows T → 0 < s.n → (v : ℕ) → FirstForbidden s.n T.bounds v
+    → (y : List ℤ) → get_or y 0 (pos 0) ≡ pos v → rule_of (plan_number s.plan) s.d rows s.n y → ⊥
+first_none s rows T z tabled some v f y here =
+    struck-out (rule_of (plan_number s.plan) s.d rows) s.n 0 f.last v h y [] some (tabled.differenced.sound h listed.0) listed.1 (λ i l. absurd (omega arith)) here
     (ap (λ (c : ℕ). (c + f.last * v) % s.n) (zero-mod s.n) ∙ ap (λ (c : ℕ). c % s.n) (zero-add (f.last * v)) ∙ f.solved)
   where
     h : List ℤ

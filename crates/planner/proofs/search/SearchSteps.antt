@@ -9,10 +9,14 @@ use native.Mathlib.Decide.{dec_lt}
 use native.Mathlib.Numerals.{add-one}
 use native.Mathlib.Omega.{arith}
 use borrow.Author.Count.{below_more}
-use lib.IntN.{pos}
+use lib.IntN.{ℤ, pos}
 use lib.ListN.{length, get_or, set, get_or-map}
 use lib.Seq.{get_or-set_same}
+use Rattle.rank1.specs.Named.{plan_number}
 use Rattle.planner.specs.declared.search.Search.{Search}
+use Rattle.planner.specs.declared.tables.ListTables.{ListTables}
+use Rattle.planner.specs.declared.tables.ModulusTables.{ModulusTables}
+use Rattle.planner.specs.declared.tables.Work.{Work}
 use Rattle.rank1.specs.Tests.{Decides}
 use Rattle.rank1.specs.Rule.{Rule}
 use Rattle.rank1.specs.Search.{Before}
@@ -21,71 +25,76 @@ use Rattle.rank1.specs.Axes.{Agree}
 use Rattle.rank1.proofs.Order.{compared, before_irrefl, not_before_at}
 use Rattle.planner.specs.Sizes.{room, largest_modulus}
 use Rattle.planner.specs.Inner.{KeptBelow}
-use Rattle.planner.specs.Stage.{ListTables, ModulusTables, Work, work, rule_of, Fixed, Stage, KeptBefore, NoFirstFrom, Lowest, ValueEnd, Ruled, at_first, behind, Sifted, SumsTo, NextFree, Completed}
+use Rattle.planner.specs.Stage.{rule_of, Fixed, Stage, KeptBefore, NoFirstFrom, Lowest, ValueEnd, Ruled, at_first, behind, Sifted, SumsTo, SumsAdded, NextFree, Tried, Completed}
 use Rattle.planner.proofs.search.PrefixLaws.{agree_all, agree_more, agree_set, agree_begins}
 use Rattle.planner.proofs.search.ValueLaws.{low-passed, high_passed}
 use Rattle.planner.proofs.search.ForbidLaws.{forbidden-none, first_none}
-use Rattle.planner.proofs.search.StageLaws.{kept_none, kept_more}
+use Rattle.planner.proofs.search.StageLaws.{kept_none, kept_more, stage_kept, sums_kept, sums_more, kept-marks, kept-sums, stage_tried, kept_tried}
 
--- ---- component at: the values below v are passed; `start` is what stood there as the first was tried, w what stands there now
-pub record Passed (rule : Rule) (d n b at : ℕ) (start w : Work) (v : ℕ) : Type 0 where
-  pub kept : KeptBefore at start w
-  pub marks : KeptBelow ((at + 1) * largest_modulus) start.struck w.struck
-  pub sums : KeptBelow ((at + 1) * room) start.sums w.sums
-  pub none : (y : List ℕ) → FirstBelow rule d n b y → Agree at y start.z → get_or y at 0 < v → ⊥
+-- ---- component at: the values below v are passed; z and w are what stood there as the first was tried, z' and w' what stands there now
+pub record Passed (rule : Rule) (d n b at : ℕ) (z : List ℕ) (w : Work) (z' : List ℕ) (w' : Work) (v : ℕ) : Type 0 where
+  pub kept : KeptBefore at z w z' w'
+  pub marks : KeptBelow ((at + 1) * largest_modulus) w.struck w'.struck
+  pub sums : KeptBelow ((at + 1) * room) w.sums w'.sums
+  pub none : (y : List ℕ) → FirstBelow rule d n b y → Agree at y z → get_or y at 0 < v → ⊥
 
 -- the marks of component at are set: `sieved` is what stands there then
-module _ (s : Search) (T : ListTables) (M : ModulusTables) (at : ℕ) (sieved : Work) (stage : Stage s T M at sieved) (within : at < s.d) where
+module _ (s : Search) (rows : List ℤ) (T : ListTables) (M : ModulusTables) (at : ℕ) (z : List ℕ) (sieved : Work) (stage : Stage s rows T M at z sieved) (within : at < s.d) where
   -- the lowest value is the first that is tried
-  pub passed_low : (r : ℕ) → Lowest s.start T.swaps at sieved.z r → Passed (rule_of s.plan s.d T) s.d s.n s.values at sieved sieved r
+  pub passed_low : (r : ℕ) → Lowest s.start T.swaps at z r → Passed (rule_of (plan_number s.plan) s.d rows) s.d s.n s.values at z sieved z sieved r
   passed_low r low = record {
-    kept = kept_none at sieved;
+    kept = kept_none at z sieved;
     marks = λ i l. refl;
     sums = λ i l. refl;
     none = λ y f same l.
         omega (
           arith,
-          low-passed s.plan s.d s.top s.tail T s.n s.values at stage.fixed.tabled stage.fixed.prefix.modulus.low stage.fixed.few_values within s.start sieved.z y r
+          low-passed (plan_number s.plan) s.d s.top s.tail rows T s.n s.values at stage.fixed.tabled stage.fixed.prefix.modulus.low stage.fixed.few_values within s.start z y r
               (stage.fixed.begins y f) low f same,
         );
   }
 
   -- a value that is struck is not the component of a first vector
   struck-passed :
-      (unmarked : List ℕ) → Sifted s.n at T.components T.bounds sieved.products sieved.sums unmarked sieved.struck
-      → (y : List ℕ) → FirstBelow (rule_of s.plan s.d T) s.d s.n s.values y → Agree at y sieved.z
+      (unmarked : Work) → Sifted s.n at T unmarked sieved
+      → (y : List ℕ) → FirstBelow (rule_of (plan_number s.plan) s.d rows) s.d s.n s.values y → Agree at y z
       → get_or sieved.struck (at * largest_modulus + get_or y at 0) 0 ≢ 0 → ⊥
-  struck-passed unmarked sifted y f same marked = go (sifted.reason (get_or y at 0) (omega (arith, f.ranged.below at within, stage.fixed.few_values)) marked)
+  struck-passed unmarked sifted y f same marked =
+      go (subst (λ (w : Work). Ruled s.n at T w (get_or y at 0)) (sym sifted.only) (anew (sifted.reason (get_or y at 0) (omega (arith, f.ranged.below at within, stage.fixed.few_values)) marked)))
     where
+      -- the reason does not hang on the marks
+      anew : Ruled s.n at T unmarked (get_or y at 0) → Ruled s.n at T (record unmarked { struck = sieved.struck }) (get_or y at 0)
+      anew (at_first e r) = at_first e r
+      anew (behind before e r) = behind before e r
+
       -- its component as a whole number
       here : (k : ℕ) → at ≡ k → get_or (map pos y) k (pos 0) ≡ pos (get_or y at 0)
       here k e = ap (λ (i : ℕ). get_or (map pos y) i (pos 0)) (sym e) ∙ get_or-map pos y at 0
 
-      go : Ruled s.n at T.components T.bounds sieved.products sieved.sums (get_or y at 0) → ⊥
-      go (at_first e r) = first_none s T sieved.z stage.fixed.tabled stage.fixed.prefix.modulus.low (get_or y at 0) r (map pos y) (here 0 e) f.admissible
+      go : Ruled s.n at T sieved (get_or y at 0) → ⊥
+      go (at_first e r) = first_none s rows T z stage.fixed.tabled stage.fixed.prefix.modulus.low (get_or y at 0) r (map pos y) (here 0 e) f.admissible
       go (behind before e r) =
-          forbidden-none s T before sieved.z sieved.sums sieved.products sieved.owners
-          (subst (λ (k : ℕ). Fixed s T k sieved.z sieved.products sieved.owners) (e ∙ sym (add-one before)) stage.fixed) (omega arith)
-          (subst (λ (k : ℕ). SumsTo s.n s.d k sieved.z T.components T.bounds sieved.sums) (omega arith) stage.sums)
-          (get_or y at 0) r (map pos y) (agree_begins (suc before) y sieved.z (λ i l. same i (omega arith))) (here (suc before) e) f.admissible
+          forbidden-none s rows T before z sieved.sums sieved.products sieved.owners
+          (subst (λ (k : ℕ). Fixed s rows T k z sieved.products sieved.owners) (e ∙ sym (add-one before)) stage.fixed) (omega arith)
+          (subst (λ (k : ℕ). SumsTo s.n s.d k z T.components T.bounds sieved.sums) (omega arith) stage.sums)
+          (get_or y at 0) r (map pos y) (agree_begins (suc before) y z (λ i l. same i (omega arith))) (here (suc before) e) f.admissible
 
-  -- the next value that is not struck; the vector and the marks are as they were when the first value was tried
+  -- the next value that is not struck; the marks are as they were when the first value was tried
   pub passed-free :
-      (unmarked : List ℕ) (start w : Work) (v end r : ℕ) → start.z ≡ sieved.z → start.struck ≡ sieved.struck
-      → Sifted s.n at T.components T.bounds sieved.products sieved.sums unmarked sieved.struck
-      → NextFree (at * largest_modulus) v end w.struck r → Passed (rule_of s.plan s.d T) s.d s.n s.values at start w v
-      → Passed (rule_of s.plan s.d T) s.d s.n s.values at start w r
-  passed-free unmarked start w v end r ez em sifted free passed = record {
+      (unmarked w : Work) (z' : List ℕ) (w' : Work) (v end r : ℕ) → w.struck ≡ sieved.struck → Sifted s.n at T unmarked sieved
+      → NextFree (at * largest_modulus) v end w'.struck r → Passed (rule_of (plan_number s.plan) s.d rows) s.d s.n s.values at z w z' w' v
+      → Passed (rule_of (plan_number s.plan) s.d rows) s.d s.n s.values at z w z' w' r
+  passed-free unmarked w z' w' v end r em sifted free passed = record {
     kept = passed.kept;
     marks = passed.marks;
     sums = passed.sums;
     none = λ y f same l. go y f same l (dec_lt (get_or y at 0) v);
   }
     where
-      go : (y : List ℕ) → FirstBelow (rule_of s.plan s.d T) s.d s.n s.values y → Agree at y start.z → get_or y at 0 < r → Dec (get_or y at 0 < v) → ⊥
+      go : (y : List ℕ) → FirstBelow (rule_of (plan_number s.plan) s.d rows) s.d s.n s.values y → Agree at y z → get_or y at 0 < r → Dec (get_or y at 0 < v) → ⊥
       go y f same l (yes h) = passed.none y f same h
       go y f same l (no h) =
-          struck-passed unmarked sifted y f (subst (Agree at y) ez same)
+          struck-passed unmarked sifted y f same
           (λ e. free.marked (get_or y at 0) (omega arith) l
           (passed.marks (at * largest_modulus + get_or y at 0)
           (omega (arith, f.ranged.below at within, stage.fixed.few_values, stage.fixed.prefix.modulus.high))
@@ -93,10 +102,10 @@ module _ (s : Search) (T : ListTables) (M : ModulusTables) (at : ℕ) (sieved : 
 
   -- every value was tried
   pub ended :
-      (start w : Work) (v end : ℕ) → ValueEnd s.n s.values at T.flips end → end ≤ v → Passed (rule_of s.plan s.d T) s.d s.n s.values at start w v
-      → (x : List ℕ) → Completed (rule_of s.plan s.d T) s.d s.n s.values at start.z x false
+      (w : Work) (z' : List ℕ) (w' : Work) (v end : ℕ) → ValueEnd s.n s.values at T.flips end → end ≤ v → Passed (rule_of (plan_number s.plan) s.d rows) s.d s.n s.values at z w z' w' v
+      → (x : List ℕ) → Completed (rule_of (plan_number s.plan) s.d rows) s.d s.n s.values at z x false
   unfolding NoFirstFrom
-  ended start w v end high done passed x = record {
+  ended w z' w' v end high done passed x = record {
     ranged = λ e. absurd (false≢true e);
     admissible = λ e. absurd (false≢true e);
     least = λ e. absurd (false≢true e);
@@ -104,38 +113,40 @@ module _ (s : Search) (T : ListTables) (M : ModulusTables) (at : ℕ) (sieved : 
         passed.none y f same
         (omega (
           arith,
-          high_passed s.plan s.d s.top s.tail T s.n s.values at stage.fixed.tabled stage.fixed.prefix.modulus.low stage.fixed.few_values within y end high f,
+          high_passed (plan_number s.plan) s.d s.top s.tail rows T s.n s.values at stage.fixed.tabled stage.fixed.prefix.modulus.low stage.fixed.few_values within y end high f,
         ));
   }
 
 -- the first value is tried with other sums: what is passed stays passed
 pub passed-anew :
-    (rule : Rule) (d n b at v : ℕ) (start w start' : Work) → start'.z ≡ start.z → Passed rule d n b at start w v → Passed rule d n b at start' start' v
-passed-anew rule d n b at v start w start' e passed = record {
-  kept = kept_none at start';
+    (rule : Rule) (d n b at v : ℕ) (z : List ℕ) (w : Work) (z' : List ℕ) (w' w'' : Work) → Passed rule d n b at z w z' w' v → Passed rule d n b at z w'' z w'' v
+passed-anew rule d n b at v z w z' w' w'' passed = record {
+  kept = kept_none at z w'';
   marks = λ i l. refl;
   sums = λ i l. refl;
-  none = λ y f same. passed.none y f (subst (Agree at y) e same);
+  none = passed.none;
 }
 
-module _ (rule : Rule) (d n b at v : ℕ) (start w : Work) (passed : Passed rule d n b at start w v) (inside : at < length start.z) (z : List ℕ) (stored : z ≡ set w.z at v) where
+module _ (rule : Rule) (d n b at v : ℕ) (z : List ℕ) (w : Work) (z' : List ℕ) (w' : Work) (passed : Passed rule d n b at z w z' w' v) (inside : at < length z) (x : List ℕ) (stored : x ≡ set z' at v) where
   -- v is set: the components before it stay
-  set_below : (i : ℕ) → i < at → get_or z i 0 ≡ get_or start.z i 0
-  set_below i l = ap (λ (x : List ℕ). get_or x i 0) stored ∙ agree_set at v w.z i l ∙ passed.kept.begins i l
+  set_below : (i : ℕ) → i < at → get_or x i 0 ≡ get_or z i 0
+  set_below i l = ap (λ (y : List ℕ). get_or y i 0) stored ∙ agree_set at v z' i l ∙ passed.kept.begins i l
 
   -- v stands there
-  set_here : get_or z at 0 ≡ v
-  set_here = ap (λ (x : List ℕ). get_or x at 0) stored ∙ get_or-set_same w.z at v 0 (omega (arith, passed.kept.size))
+  set_here : get_or x at 0 ≡ v
+  set_here = ap (λ (y : List ℕ). get_or y at 0) stored ∙ get_or-set_same z' at v 0 (omega (arith, passed.kept.size))
 
   -- a vector that begins as at the start and has v there begins as what is stored
-  begins : (y : List ℕ) → Agree at y start.z → get_or y at 0 ≡ v → Agree (at + 1) y z
-  begins y same e = agree_more at y z (λ i l. same i l ∙ sym (set_below i l)) (e ∙ sym set_here)
+  begins : (y : List ℕ) → Agree at y z → get_or y at 0 ≡ v → Agree (at + 1) y x
+  begins y same e = agree_more at y x (λ i l. same i l ∙ sym (set_below i l)) (e ∙ sym set_here)
 
   -- v is passed
-  pub passed_more : (newer : Work) → KeptBefore at w newer → KeptBelow ((at + 1) * largest_modulus) w.struck newer.struck → KeptBelow ((at + 1) * room) w.sums newer.sums → NoFirstFrom rule d n b (at + 1) z → Passed rule d n b at start newer (v + 1)
+  pub passed_more :
+      (z'' : List ℕ) (w'' : Work) → KeptBefore at z' w' z'' w'' → KeptBelow ((at + 1) * largest_modulus) w'.struck w''.struck → KeptBelow ((at + 1) * room) w'.sums w''.sums
+      → NoFirstFrom rule d n b (at + 1) x → Passed rule d n b at z w z'' w'' (v + 1)
   unfolding NoFirstFrom
-  passed_more newer kept marks sums none = record {
-    kept = kept_more at at start w newer (omega arith) passed.kept kept;
+  passed_more z'' w'' kept marks sums none = record {
+    kept = kept_more at at z w z' w' z'' w'' (omega arith) passed.kept kept;
     marks = λ i l. marks i l ∙ passed.marks i l;
     sums = λ i l. sums i l ∙ passed.sums i l;
     none = λ y f same l.
@@ -143,35 +154,98 @@ module _ (rule : Rule) (d n b at v : ℕ) (start w : Work) (passed : Passed rule
   }
 
   -- the call found one
-  pub found : (x : List ℕ) → Agree (at + 1) x z → Completed rule d n b (at + 1) z x true → Completed rule d n b at start.z x true
-  found x kept done = record {
+  pub found : (y : List ℕ) → Agree (at + 1) y x → Completed rule d n b (at + 1) x y true → Completed rule d n b at z y true
+  found y kept done = record {
     ranged = done.ranged;
     admissible = done.admissible;
-    least = λ e y f same before.
-        let x-here : get_or x at 0 ≡ v = kept at (omega arith) ∙ set_here in
-        let x_below : Agree at y x = λ i l. same i l ∙ sym (kept i (omega arith) ∙ set_below i l) in
+    least = λ e a f same before.
+        let y-here : get_or y at 0 ≡ v = kept at (omega arith) ∙ set_here in
+        let y_below : Agree at a y = λ i l. same i l ∙ sym (kept i (omega arith) ∙ set_below i l) in
         ⊎_elim
-        (λ low. passed.none y f same low)
+        (λ low. passed.none a f same low)
         (⊎_elim
-        (λ here. done.least e y f (begins y same here) before)
-        (λ high. not_before_at at y x x_below (omega arith) before))
-        (compared (get_or y at 0) v);
+        (λ here. done.least e a f (begins a same here) before)
+        (λ high. not_before_at at a y y_below (omega arith) before))
+        (compared (get_or a at 0) v);
     none = λ e. absurd (true≢false e);
   }
 
--- with equal lists
+-- where two branches meet
 pub passed-same :
-    (rule : Rule) (d n b at v : ℕ) (start : Work) (z sums products struck owners z' sums' products' struck' owners' : List ℕ)
-    → z' ≡ z → sums' ≡ sums → products' ≡ products → struck' ≡ struck → owners' ≡ owners
-    → Passed rule d n b at start (work z sums products struck owners) v → Passed rule d n b at start (work z' sums' products' struck' owners') v
-passed-same rule d n b at v start z sums products struck owners z' sums' products' struck' owners' ez es ep em eo =
-    subst (λ (w : Work). Passed rule d n b at start w v)
-    (sym
-    (ap (λ (y : List ℕ). work y sums' products' struck' owners') ez
-    ∙ ap (λ (y : List ℕ). work z y products' struck' owners') es
-    ∙ ap (λ (y : List ℕ). work z sums y struck' owners') ep
-    ∙ ap (λ (y : List ℕ). work z sums products y owners') em
-    ∙ ap (λ (y : List ℕ). work z sums products struck y) eo))
+    (rule : Rule) (d n b at v : ℕ) (z : List ℕ) (w : Work) (z' z'' : List ℕ) (w' w'' : Work) → z'' ≡ z' → w'' ≡ w' → Passed rule d n b at z w z' w' v → Passed rule d n b at z w z'' w'' v
+passed-same rule d n b at v z w z' z'' w' w'' ez ew passed =
+    subst (λ (x : List ℕ). Passed rule d n b at z w x w'' v) (sym ez) (subst (λ (x : Work). Passed rule d n b at z w z' x v) (sym ew) passed)
+
+-- ---- the steps of a call, one after the other: z and w are what it was given
+module _
+    (s : Search) (rows : List ℤ) (T : ListTables) (M : ModulusTables) (at : ℕ) (z : List ℕ) (w : Work) (stage : Stage s rows T M at z w) (within : at < s.d)
+    (w₁ : Work) (sifted : Sifted s.n at T w w₁)
+  where
+    -- the marks of component at are set
+    pub marked : Stage s rows T M at z w₁
+    marked = stage_kept s rows T M at z w z w₁ (kept-marks s.n at T z w w₁ sifted) stage
+
+    -- the values before the first that is left are passed
+    pub passed_first :
+        (low end r : ℕ) → Lowest s.start T.swaps at z low → NextFree (at * largest_modulus) low end w₁.struck r → Passed (rule_of (plan_number s.plan) s.d rows) s.d s.n s.values at z w₁ z w₁ r
+    passed_first low end r lowest free = passed-free s rows T M at z w₁ marked within w w₁ z w₁ low end r refl sifted free (passed_low s rows T M at z w₁ marked within low lowest)
+
+    module _ (w₂ : Work) (added : SumsAdded s.n s.d at T w₁ w₂) where
+      -- the sums are set; those up to section at are known
+      summed : Stage s rows T M at z w₂
+      summed = stage_kept s rows T M at z w₁ z w₂ (kept-sums s.n s.d at T z w₁ w₂ added) marked
+
+      sums-known : SumsTo s.n s.d at z T.components T.bounds w₂.sums
+      sums-known = sums_more s rows T M at z w₁ w₂ marked within added
+
+      module _ (z' : List ℕ) (w' : Work) (v : ℕ) (passed : Passed (rule_of (plan_number s.plan) s.d rows) s.d s.n s.values at z w₂ z' w' v) where
+        -- before each value the stage is as it was, and what belongs to the axes before too
+        pub looped : Stage s rows T M at z' w'
+        looped = stage_kept s rows T M at z w₂ z' w' passed.kept summed
+
+        pub kept-looped : KeptBefore at z w z' w'
+        kept-looped =
+            kept_more at at z w z w₁ z' w' (omega arith) (kept-marks s.n at T z w w₁ sifted)
+            (kept_more at at z w₁ z w₂ z' w' (omega arith) (kept-sums s.n s.d at T z w₁ w₂ added) passed.kept)
+
+        -- the next value that is left
+        pub passed_next : (end r : ℕ) → NextFree (at * largest_modulus) v end w'.struck r → Passed (rule_of (plan_number s.plan) s.d rows) s.d s.n s.values at z w₂ z' w' r
+        passed_next end r free = passed-free s rows T M at z w₁ marked within w w₂ z' w' v end r (ap (λ (x : Work). x.struck) added.only) sifted free passed
+
+        module _ (less : v < s.values) (x : List ℕ) (w₃ : Work) (r : Bool) (tried : Tried s at v rows z' w' x w₃ r) where
+          -- v is tried: the next stage
+          pub stage_next : r ≡ true → Stage s rows T M (at + 1) x w₃
+          stage_next =
+              stage_tried s rows T M at v z' w' looped within less x w₃ r tried
+              (sums_kept s at T.components T.bounds z z' w₂.sums w'.sums stage.fixed.tabled.differenced.arranged.bounded passed.kept.begins passed.kept.sum_size passed.sums sums-known)
+
+          kept-tried : KeptBefore at z' w' x w₃
+          kept-tried = kept_tried s rows T M at v z' w' looped within less x w₃ r tried
+
+          place : at < length z
+          place = omega (arith, within, stage.fixed.prefix.size)
+
+          -- v is passed without a call
+          pub passed-alone : r ≡ false → Passed (rule_of (plan_number s.plan) s.d rows) s.d s.n s.values at z w₂ x w₃ (v + 1)
+          passed-alone none =
+              passed_more (rule_of (plan_number s.plan) s.d rows) s.d s.n s.values at v z w₂ z' w' passed place x tried.stored x w₃ kept-tried
+              (λ i l. ap (λ (y : Work). get_or y.struck i 0) tried.only) (λ i l. ap (λ (y : Work). get_or y.sums i 0) tried.only) (tried.none none)
+
+          module _ (z'' : List ℕ) (w'' : Work) (kept : KeptBefore (at + 1) x w₃ z'' w'') where
+            -- v is passed by a call
+            pub passed-call : NoFirstFrom (rule_of (plan_number s.plan) s.d rows) s.d s.n s.values (at + 1) x → Passed (rule_of (plan_number s.plan) s.d rows) s.d s.n s.values at z w₂ z'' w'' (v + 1)
+            passed-call =
+                passed_more (rule_of (plan_number s.plan) s.d rows) s.d s.n s.values at v z w₂ z' w' passed place x tried.stored z'' w''
+                (kept_more at (at + 1) z' w' x w₃ z'' w'' (omega arith) kept-tried kept)
+                (λ i l. kept.struck i l ∙ ap (λ (y : Work). get_or y.struck i 0) tried.only)
+                (λ i l. kept.sums i (omega arith) ∙ ap (λ (y : Work). get_or y.sums i 0) tried.only)
+
+            -- a call found a vector
+            pub found-call : Completed (rule_of (plan_number s.plan) s.d rows) s.d s.n s.values (at + 1) x z'' true → Completed (rule_of (plan_number s.plan) s.d rows) s.d s.n s.values at z z'' true
+            found-call = found (rule_of (plan_number s.plan) s.d rows) s.d s.n s.values at v z w₂ z' w' passed place x tried.stored z'' kept.begins
+
+            pub kept-call : KeptBefore at z w z'' w''
+            kept-call = kept_more at at z w z' w' z'' w'' (omega arith) kept-looped (kept_more at (at + 1) z' w' x w₃ z'' w'' (omega arith) kept-tried kept)
 
 -- ---- all components are fixed: z is the only vector that begins so
 pub whole : (rule : Rule) (d n b : ℕ) (z : List ℕ) (r : Bool) → length z ≡ d → ((j : ℕ) → j < d → get_or z j 0 < b) → Decides r (rule n (map pos z)) → Completed rule d n b d z z r

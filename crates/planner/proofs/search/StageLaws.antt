@@ -11,16 +11,20 @@ use borrow.Author.Count.{below_more}
 use lib.IntN.{ℤ, pos, ◌*ℤ◌}
 use lib.ListN.{length, get_or, set, take, length-set, get_or-map}
 use lib.Seq.{get_or-set_same, get_or-set_other, length-take-le, take-set-le}
+use Rattle.rank1.specs.Named.{plan_number}
 use Rattle.planner.specs.declared.search.Search.{Search}
+use Rattle.planner.specs.declared.tables.ListTables.{ListTables}
+use Rattle.planner.specs.declared.tables.ModulusTables.{ModulusTables}
+use Rattle.planner.specs.declared.tables.Work.{Work}
 use Rattle.rank1.specs.Residue.{dot, residue_at}
 use Rattle.rank1.specs.Axes.{Agree}
 use Rattle.rank1.proofs.ResidueLaws.{residue-lt}
 use Rattle.rank1.proofs.DifferenceLaws.{part_agrees}
-use Rattle.planner.specs.Sizes.{axes, lasts, room, places, largest_size, largest_modulus}
+use Rattle.planner.specs.Sizes.{axes, lasts, room, places, largest_size}
 use Rattle.planner.specs.Inner.{place, KeptBelow, Covered, Products, AxisSet}
 use Rattle.planner.specs.Runs.{column, Bounds}
 use Rattle.planner.specs.Sieve.{Readable}
-use Rattle.planner.specs.Stage.{ListTables, Tabled, ModulusTables, Work, work, Prefixed, SumsTo, Summable, SumsAdded, Siftable, Triable, Tried, Stage, KeptBefore}
+use Rattle.planner.specs.Stage.{Tabled, Prefixed, SumsTo, Summable, SumsAdded, Siftable, Sifted, Triable, Tried, Stage, KeptBefore}
 use Rattle.planner.proofs.products.ProductLaws.{place-lt, set_products, covered_wider}
 use Rattle.planner.proofs.runs.RunLaws.{bounds_rise}
 use Rattle.planner.proofs.search.PrefixLaws.{agree_take, agree_set}
@@ -70,30 +74,32 @@ sums_kept s k components bounds z₀ z old new bounded same e kept t = record {
 }
 
 -- the stage stays
-pub stage_kept : (s : Search) (T : ListTables) (M : ModulusTables) (at : ℕ) (old new : Work) → KeptBefore at old new → Stage s T M at old → Stage s T M at new
-stage_kept s T M at old new k g = record {
+pub stage_kept :
+    (s : Search) (rows : List ℤ) (T : ListTables) (M : ModulusTables) (at : ℕ) (z : List ℕ) (w : Work) (z' : List ℕ) (w' : Work)
+    → KeptBefore at z w z' w' → Stage s rows T M at z w → Stage s rows T M at z' w'
+stage_kept s rows T M at z w z' w' k g = record {
   fixed = record {
     tabled = tabled;
     prefix =
-        prefixed-kept s at old.z old.products old.owners new.z new.products new.owners tabled.listed.covers.narrow
+        prefixed-kept s at z w.products w.owners z' w'.products w'.owners tabled.listed.covers.narrow
         k.size k.begins k.product-size k.products k.owner_size g.fixed.prefix;
     few_values = g.fixed.few_values;
     begins = g.fixed.begins;
     below = λ j l. omega (arith, k.begins j l, g.fixed.below j l);
   };
   sums =
-      sums_kept s (at - 1) T.components T.bounds old.z new.z old.sums new.sums tabled.differenced.arranged.bounded (λ i l. k.begins i (omega arith)) k.sum_size k.sums
+      sums_kept s (at - 1) T.components T.bounds z z' w.sums w'.sums tabled.differenced.arranged.bounded (λ i l. k.begins i (omega arith)) k.sum_size k.sums
       g.sums;
   solutions = g.solutions;
   marks = k.mark_size ∙ g.marks;
 }
   where
-    tabled : Tabled s.plan s.d s.top s.tail T
+    tabled : Tabled (plan_number s.plan) s.d s.top s.tail rows T
     tabled = g.fixed.tabled
 
 -- nothing moved
-pub kept_none : (at : ℕ) (w : Work) → KeptBefore at w w
-kept_none at w = record {
+pub kept_none : (at : ℕ) (z : List ℕ) (w : Work) → KeptBefore at z w z w
+kept_none at z w = record {
   size = refl;
   begins = λ i l. refl;
   sum_size = refl;
@@ -106,8 +112,10 @@ kept_none at w = record {
 }
 
 -- one move after another, of which the second may be of a later axis
-pub kept_more : (at later : ℕ) (old new newer : Work) → at ≤ later → KeptBefore at old new → KeptBefore later new newer → KeptBefore at old newer
-kept_more at later old new newer l k h = record {
+pub kept_more :
+    (at later : ℕ) (z : List ℕ) (w : Work) (z' : List ℕ) (w' : Work) (z'' : List ℕ) (w'' : Work)
+    → at ≤ later → KeptBefore at z w z' w' → KeptBefore later z' w' z'' w'' → KeptBefore at z w z'' w''
+kept_more at later z w z' w' z'' w'' l k h = record {
   size = h.size ∙ k.size;
   begins = λ i m. h.begins i (omega arith) ∙ k.begins i m;
   sum_size = h.sum_size ∙ k.sum_size;
@@ -173,106 +181,96 @@ sum_below s at i e components bounds z sums some t l h from to =
 
 -- what setting a section of the sums asks
 pub summable :
-    (s : Search) (at : ℕ) (components : List ℤ) (bounds z sums products owners : List ℕ) → Bounds bounds → length components ≡ axes * room → Covered s.top components
-    → s.d ≤ axes → at < s.d → Prefixed s at z products owners → SumsTo s.n s.d (at - 1) z components bounds sums
-    → Summable s.n s.d at components bounds products sums
-summable s at components bounds z sums products owners bounded wide small few within f t = record {
+    (s : Search) (rows : List ℤ) (T : ListTables) (M : ModulusTables) (at : ℕ) (z : List ℕ) (w : Work) → Stage s rows T M at z w → at < s.d → Summable s.n s.d at T w
+summable s rows T M at z w g within = record {
   within = within;
-  few_axes = few;
+  few_axes = tabled.listed.list.few_axes;
   bounded = bounded;
   readable = λ before e l.
-      readable s before z sums products owners components (get_or bounds ((at + 1) * lasts) 0) (get_or bounds (s.d * lasts) 0)
-      (subst (λ (k : ℕ). Prefixed s k z products owners) (e ∙ sym (add-one before)) f) small wide t.size (omega arith)
-      (bounded.few (s.d * lasts))
+      readable s before z w.sums w.products w.owners T.components (get_or T.bounds ((at + 1) * lasts) 0) (get_or T.bounds (s.d * lasts) 0)
+      (subst (λ (k : ℕ). Prefixed s k z w.products w.owners) (e ∙ sym (add-one before)) g.fixed.prefix) tabled.differenced.small tabled.differenced.arranged.wide g.sums.size
+      (omega (arith, tabled.listed.list.few_axes)) (bounded.few (s.d * lasts))
       (λ a from to.
-      sum_below s (at - 1) before a components bounds z sums f.modulus.low t (omega arith) (omega arith)
-      (omega (arith, bounds_rise bounds bounded ((before + 1) * lasts) ((at + 1) * lasts) (omega arith) (omega arith))) to);
+      sum_below s (at - 1) before a T.components T.bounds z w.sums g.fixed.prefix.modulus.low g.sums (omega arith) (omega arith)
+      (omega (arith, bounds_rise T.bounds bounded ((before + 1) * lasts) ((at + 1) * lasts) (omega arith) (omega (arith, tabled.listed.list.few_axes)))) to);
 }
+  where
+    tabled : Tabled (plan_number s.plan) s.d s.top s.tail rows T
+    tabled = g.fixed.tabled
+
+    bounded : Bounds T.bounds
+    bounded = tabled.differenced.arranged.bounded
 
 -- section at is set: the sums up to it are known
 pub sums_more :
-    (s : Search) (at : ℕ) (components : List ℤ) (bounds z products owners old new : List ℕ) → Bounds bounds → Covered s.top components → s.d ≤ axes → at < s.d
-    → Prefixed s at z products owners → SumsTo s.n s.d (at - 1) z components bounds old → length new ≡ length old
-    → SumsAdded s.n s.d at components bounds products old new → SumsTo s.n s.d at z components bounds new
-sums_more s at components bounds z products owners old new bounded small few within f t size added = go at refl
+    (s : Search) (rows : List ℤ) (T : ListTables) (M : ModulusTables) (at : ℕ) (z : List ℕ) (w w' : Work) → Stage s rows T M at z w → at < s.d
+    → SumsAdded s.n s.d at T w w' → SumsTo s.n s.d at z T.components T.bounds w'.sums
+sums_more s rows T M at z w w' g within added = go at refl
   where
-    kept : SumsTo s.n s.d (at - 1) z components bounds new
-    kept = sums_kept s (at - 1) components bounds z z old new bounded (λ i l. refl) size added.kept t
+    bounded : Bounds T.bounds
+    bounded = g.fixed.tabled.differenced.arranged.bounded
+
+    few : s.d ≤ axes
+    few = g.fixed.tabled.listed.list.few_axes
+
+    kept : SumsTo s.n s.d (at - 1) z T.components T.bounds w'.sums
+    kept = sums_kept s (at - 1) T.components T.bounds z z w.sums w'.sums bounded (λ i l. refl) added.size added.kept g.sums
 
     -- behind the first axis the last section is new
     last :
-        (before a : ℕ) → at ≡ suc before → get_or bounds ((at + 1) * lasts) 0 ≤ a → a < get_or bounds (s.d * lasts) 0
-        → get_or new (at * room + a) 0 ≡ residue_at s.n (map pos z) (take at (column s.d components a))
+        (before a : ℕ) → at ≡ suc before → get_or T.bounds ((at + 1) * lasts) 0 ≤ a → a < get_or T.bounds (s.d * lasts) 0
+        → get_or w'.sums (at * room + a) 0 ≡ residue_at s.n (map pos z) (take at (column s.d T.components a))
     last before a e from to =
         added.added before a e from to
-        ∙ part-is s before z old products owners components (subst (λ (k : ℕ). Prefixed s k z products owners) (e ∙ sym (add-one before)) f) small (omega arith) a
-        (t.sum before a (omega arith) (omega arith) (omega (arith, bounds_rise bounds bounded ((before + 1) * lasts) ((at + 1) * lasts) (omega arith) (omega arith))) to)
-        ∙ ap (λ (k : ℕ). residue_at s.n (map pos z) (take k (column s.d components a))) (sym e)
+        ∙ part-is s before z w.sums w.products w.owners T.components (subst (λ (k : ℕ). Prefixed s k z w.products w.owners) (e ∙ sym (add-one before)) g.fixed.prefix) g.fixed.tabled.differenced.small (omega arith) a
+        (g.sums.sum before a (omega arith) (omega arith) (omega (arith, bounds_rise T.bounds bounded ((before + 1) * lasts) ((at + 1) * lasts) (omega arith) (omega arith))) to)
+        ∙ ap (λ (k : ℕ). residue_at s.n (map pos z) (take k (column s.d T.components a))) (sym e)
 
-    go : (k : ℕ) → at ≡ k → SumsTo s.n s.d at z components bounds new
+    go : (k : ℕ) → at ≡ k → SumsTo s.n s.d at z T.components T.bounds w'.sums
     go zero e = record { size = kept.size; sum = λ i a l h from to. kept.sum i a (omega arith) h from to }
     go (suc before) e = record { size = kept.size; sum = λ i a l h from to. cases i a l h from to (ℕ_discrete i at) }
       where
         cases :
-            (i a : ℕ) → i ≤ at → i < s.d → get_or bounds ((i + 1) * lasts) 0 ≤ a → a < get_or bounds (s.d * lasts) 0 → Dec (i ≡ at)
-            → get_or new (i * room + a) 0 ≡ residue_at s.n (map pos z) (take i (column s.d components a))
+            (i a : ℕ) → i ≤ at → i < s.d → get_or T.bounds ((i + 1) * lasts) 0 ≤ a → a < get_or T.bounds (s.d * lasts) 0 → Dec (i ≡ at)
+            → get_or w'.sums (i * room + a) 0 ≡ residue_at s.n (map pos z) (take i (column s.d T.components a))
         cases i a l h from to (yes q) =
-            subst (λ (k : ℕ). get_or bounds ((k + 1) * lasts) 0 ≤ a → get_or new (k * room + a) 0 ≡ residue_at s.n (map pos z) (take k (column s.d components a))) (sym q)
+            subst (λ (k : ℕ). get_or T.bounds ((k + 1) * lasts) 0 ≤ a → get_or w'.sums (k * room + a) 0 ≡ residue_at s.n (map pos z) (take k (column s.d T.components a))) (sym q)
             (λ from'. last before a e from' to) from
         cases i a l h from to (no q) = kept.sum i a (omega arith) h from to
 
 -- ---- the moves of the recursion
 -- the marks of component at are set
-pub kept-marks :
-    (at : ℕ) (z sums products old new owners : List ℕ) → length new ≡ length old → KeptBelow (at * largest_modulus) old new
-    → KeptBefore at (work z sums products old owners) (work z sums products new owners)
-kept-marks at z sums products old new owners e kept = record {
+pub kept-marks : (n at : ℕ) (T : ListTables) (z : List ℕ) (w w' : Work) → Sifted n at T w w' → KeptBefore at z w z w'
+kept-marks n at T z w w' sifted = record {
   size = refl;
   begins = λ i l. refl;
-  sum_size = refl;
-  sums = λ i l. refl;
-  product-size = refl;
-  products = λ i l. refl;
-  mark_size = e;
-  struck = kept;
-  owner_size = refl;
+  sum_size = ap (λ (x : Work). length x.sums) sifted.only;
+  sums = λ i l. ap (λ (x : Work). get_or x.sums i 0) sifted.only;
+  product-size = ap (λ (x : Work). length x.products) sifted.only;
+  products = λ i l. ap (λ (x : Work). get_or x.products i 0) sifted.only;
+  mark_size = sifted.size;
+  struck = sifted.kept;
+  owner_size = ap (λ (x : Work). length x.owners) sifted.only;
 }
 
 -- section at of the sums is set
-pub kept-sums :
-    (at : ℕ) (z old new products struck owners : List ℕ) → length new ≡ length old → KeptBelow ((at - 1 + 1) * room) old new
-    → KeptBefore at (work z old products struck owners) (work z new products struck owners)
-kept-sums at z old new products struck owners e kept = record {
+pub kept-sums : (n d at : ℕ) (T : ListTables) (z : List ℕ) (w w' : Work) → SumsAdded n d at T w w' → KeptBefore at z w z w'
+kept-sums n d at T z w w' added = record {
   size = refl;
   begins = λ i l. refl;
-  sum_size = e;
-  sums = kept;
-  product-size = refl;
-  products = λ i l. refl;
-  mark_size = refl;
-  struck = λ i l. refl;
-  owner_size = refl;
-}
-
--- the check used the owners
-pub kept_owners : (at : ℕ) (z sums products struck old new : List ℕ) → length new ≡ length old → KeptBefore at (work z sums products struck old) (work z sums products struck new)
-kept_owners at z sums products struck old new e = record {
-  size = refl;
-  begins = λ i l. refl;
-  sum_size = refl;
-  sums = λ i l. refl;
-  product-size = refl;
-  products = λ i l. refl;
-  mark_size = refl;
-  struck = λ i l. refl;
-  owner_size = e;
+  sum_size = added.size;
+  sums = added.kept;
+  product-size = ap (λ (x : Work). length x.products) added.only;
+  products = λ i l. ap (λ (x : Work). get_or x.products i 0) added.only;
+  mark_size = ap (λ (x : Work). length x.struck) added.only;
+  struck = λ i l. ap (λ (x : Work). get_or x.struck i 0) added.only;
+  owner_size = ap (λ (x : Work). length x.owners) added.only;
 }
 
 -- what the sieve asks
 pub siftable :
-    (s : Search) (T : ListTables) (M : ModulusTables) (at : ℕ) (w : Work) → Stage s T M at w → at < s.d
-    → Siftable s.n at s.tail T.components T.bounds w.products w.sums M.solutions M.starts M.steps w.struck
-siftable s T M at w g within = record {
+    (s : Search) (rows : List ℤ) (T : ListTables) (M : ModulusTables) (at : ℕ) (z : List ℕ) (w : Work) → Stage s rows T M at z w → at < s.d → Siftable s.n at s.tail T M w
+siftable s rows T M at z w g within = record {
   modulus = g.fixed.prefix.modulus;
   bounded = bounded;
   short = tabled.differenced.tails;
@@ -282,17 +280,17 @@ siftable s T M at w g within = record {
     bounded = bounded;
     solved = g.solutions;
     readable =
-        readable s before w.z w.sums w.products w.owners T.components (get_or T.bounds (suc before * lasts) 0) (get_or T.bounds (suc (suc before) * lasts) 0)
-        (subst (λ (k : ℕ). Prefixed s k w.z w.products w.owners) (e ∙ sym (add-one before)) g.fixed.prefix) tabled.differenced.small tabled.differenced.arranged.wide g.sums.size
+        readable s before z w.sums w.products w.owners T.components (get_or T.bounds (suc before * lasts) 0) (get_or T.bounds (suc (suc before) * lasts) 0)
+        (subst (λ (k : ℕ). Prefixed s k z w.products w.owners) (e ∙ sym (add-one before)) g.fixed.prefix) tabled.differenced.small tabled.differenced.arranged.wide g.sums.size
         (omega (arith, few)) (bounded.few (suc (suc before) * lasts))
         (λ a from to.
-        sum_below s (at - 1) before a T.components T.bounds w.z w.sums g.fixed.prefix.modulus.low g.sums (omega arith) (omega arith)
+        sum_below s (at - 1) before a T.components T.bounds z w.sums g.fixed.prefix.modulus.low g.sums (omega arith) (omega arith)
         (omega (arith, ap (λ (k : ℕ). get_or T.bounds (k * lasts) 0) (add-one before)))
         (omega (arith, bounds_rise T.bounds bounded (suc (suc before) * lasts) (s.d * lasts) (omega arith) (omega (arith, few)))));
   };
 }
   where
-    tabled : Tabled s.plan s.d s.top s.tail T
+    tabled : Tabled (plan_number s.plan) s.d s.top s.tail rows T
     tabled = g.fixed.tabled
 
     bounded : Bounds T.bounds
@@ -301,9 +299,9 @@ siftable s T M at w g within = record {
     few : s.d ≤ axes
     few = tabled.listed.list.few_axes
 
-module _ (s : Search) (T : ListTables) (M : ModulusTables) (at v : ℕ) (w : Work) (g : Stage s T M at w) (within : at < s.d) (less : v < s.values) where
+module _ (s : Search) (rows : List ℤ) (T : ListTables) (M : ModulusTables) (at v : ℕ) (z : List ℕ) (w : Work) (g : Stage s rows T M at z w) (within : at < s.d) (less : v < s.values) where
   -- what trying v asks
-  pub triable : Triable s at v T.rows T.levels T.sizes w.z w.products w.owners
+  pub triable : Triable s at v rows T z w
   triable = record {
     listed = g.fixed.tabled.listed;
     prefix = g.fixed.prefix;
@@ -312,13 +310,13 @@ module _ (s : Search) (T : ListTables) (M : ModulusTables) (at v : ℕ) (w : Wor
     less = less;
   }
 
-  module _ (z products owners : List ℕ) (r : Bool) (t : Tried s at v T.rows w.z w.products z products owners r) where
+  module _ (z' : List ℕ) (w' : Work) (r : Bool) (t : Tried s at v rows z w z' w' r) where
     -- the vector agrees with what stood there before component at
-    begins : Agree at z w.z
-    begins i l = ap (λ (y : List ℕ). get_or y i 0) t.stored ∙ agree_set at v w.z i l
+    begins : Agree at z' z
+    begins i l = ap (λ (y : List ℕ). get_or y i 0) t.stored ∙ agree_set at v z i l
 
     -- the next stage, where section at of the sums is set
-    pub stage_tried : SumsTo s.n s.d at w.z T.components T.bounds w.sums → r ≡ true → Stage s T M (at + 1) (work z w.sums products w.struck owners)
+    pub stage_tried : SumsTo s.n s.d at z T.components T.bounds w.sums → r ≡ true → Stage s rows T M (at + 1) z' w'
     stage_tried summed e = record {
       fixed = record {
         tabled = g.fixed.tabled;
@@ -327,28 +325,29 @@ module _ (s : Search) (T : ListTables) (M : ModulusTables) (at v : ℕ) (w : Wor
         begins = g.fixed.begins;
         below =
             subst (λ (y : List ℕ). (j : ℕ) → j < at + 1 → get_or y j 0 < s.values) (sym t.stored)
-            (below_stored s at v w.z within g.fixed.prefix.size less g.fixed.below);
+            (below_stored s at v z within g.fixed.prefix.size less g.fixed.below);
       };
       sums =
-          subst (λ (k : ℕ). SumsTo s.n s.d k z T.components T.bounds w.sums) before
-          (sums_kept s at T.components T.bounds w.z z w.sums w.sums g.fixed.tabled.differenced.arranged.bounded begins refl (λ i l. refl) summed);
+          subst (λ (k : ℕ). SumsTo s.n s.d k z' T.components T.bounds w'.sums) before
+          (subst (λ (x : List ℕ). SumsTo s.n s.d at z' T.components T.bounds x) (sym (ap (λ (x : Work). x.sums) t.only))
+          (sums_kept s at T.components T.bounds z z' w.sums w.sums g.fixed.tabled.differenced.arranged.bounded begins refl (λ i l. refl) summed));
       solutions = g.solutions;
-      marks = g.marks;
+      marks = ap (λ (x : Work). length x.struck) t.only ∙ g.marks;
     }
       where
         before : at ≡ at + 1 - 1
         before = omega arith
 
     -- what belongs to the axes before stays
-    pub kept_tried : length products ≡ length w.products → length owners ≡ length w.owners → KeptBefore at w (work z w.sums products w.struck owners)
-    kept_tried lp lo = record {
-      size = ap length t.stored ∙ length-set w.z at v;
+    pub kept_tried : KeptBefore at z w z' w'
+    kept_tried = record {
+      size = ap length t.stored ∙ length-set z at v;
       begins = begins;
-      sum_size = refl;
-      sums = λ i l. refl;
-      product-size = lp;
+      sum_size = ap (λ (x : Work). length x.sums) t.only;
+      sums = λ i l. ap (λ (x : Work). get_or x.sums i 0) t.only;
+      product-size = t.product-size;
       products = t.kept_products;
-      mark_size = refl;
-      struck = λ i l. refl;
-      owner_size = lo;
+      mark_size = ap (λ (x : Work). length x.struck) t.only;
+      struck = λ i l. ap (λ (x : Work). get_or x.struck i 0) t.only;
+      owner_size = t.owner_size;
     }

@@ -1,5 +1,5 @@
 -- What the sieve's code leans on: the sums of an axis set one by one, marks and why they stand, and a run as a part of the tables.
-use mathlib.Core.Path.{◌≡◌, refl, sym, ◌∙◌, ap, subst}
+use mathlib.Core.Path.{◌≡◌, sym, ◌∙◌, ap, subst}
 use mathlib.Core.Logic.{◌⊎◌, inl, inr, ⊎_elim}
 use mathlib.Core.List.{List}
 use Prim.Native.Nat.{ℕ, suc, ◌+◌, ◌*◌, ◌-◌, ◌%◌, ◌<◌, ◌≤◌}
@@ -11,6 +11,8 @@ use lib.ListN.{length, get_or, set, drop, length-set}
 use lib.Seq.{get_or-take, get_or-set_same, get_or-set_other}
 use Rattle.planner.specs.Inner.{place}
 use Rattle.planner.specs.Sizes.{axes, largest_modulus, lasts, places, room, largest_size}
+use Rattle.planner.specs.declared.tables.ListTables.{ListTables}
+use Rattle.planner.specs.declared.tables.ModulusTables.{ModulusTables}
 use Rattle.planner.specs.Sieve.{Marked, Steps, Marking, Solutions, SolutionsSet, TableAt, Run, product, part, Solves, Struck, product_at, part_at, SumsSet, RunStart, Sievable, Forbidden, Barred, AllBarred, Sieved}
 use Rattle.planner.proofs.products.ProductLaws.{place-lt}
 use Rattle.planner.proofs.runs.RunLaws.{bounds_rise}
@@ -19,15 +21,6 @@ use Rattle.planner.proofs.sieve.SolutionLaws.{steps_solve, table_same}
 
 -- ---- the sums of the next axis
 module _ (n j : ℕ) (components : List ℤ) (products sums : List ℕ) (from : ℕ) where
-  -- none is set
-  pub sums_none : SumsSet n j components products sums from from sums
-  sums_none = record {
-    size = refl;
-    set = λ e l m. absurd (omega arith);
-    below = λ e l m. absurd (omega arith);
-    kept = λ i l. refl;
-  }
-
   -- one more is set
   pub sums_more : (e v : ℕ) (new : List ℕ) → from ≤ e → e < room → suc j < axes → length sums ≡ axes * room → v ≡ part_at n j components products sums e → v < n → SumsSet n j components products sums from e new → SumsSet n j components products sums from (e + 1) (set new (j * room + room + e) v)
   sums_more e v new l m a size is under s = record {
@@ -54,15 +47,6 @@ module _ (n j : ℕ) (components : List ℤ) (products sums : List ℕ) (from : 
           subst (Good k) (sym (get_or-set_other new (j * room + room + e) (suc j * room + k) v 0 (λ w. omega arith)))
           (s.set k h q, s.below k h q)
 
-  -- all that were asked for are set
-  pub sums_all : (e to : ℕ) (new : List ℕ) → to ≤ e → SumsSet n j components products sums from e new → SumsSet n j components products sums from to new
-  sums_all e to new l s = record {
-    size = s.size;
-    set = λ k h b. s.set k h (omega arith);
-    below = λ k h b. s.below k h (omega arith);
-    kept = s.kept;
-  }
-
 -- ---- marks
 -- a value is marked after a mark at v if it was before or is v
 pub mark_cases : (marks : List ℕ) (v w : ℕ) → Marked (set marks v 1) w → (w ≡ v) ⊎ Marked marks w
@@ -71,10 +55,6 @@ mark_cases marks v w m = go (ℕ_discrete w v)
     go : Dec (w ≡ v) → (w ≡ v) ⊎ Marked marks w
     go (yes e) = inl e
     go (no d) = inr (λ e. m (get_or-set_other marks v w 1 0 d ∙ e))
-
--- at the start
-pub marking_none : (v step : ℕ) (old : List ℕ) → Marking v step old old
-marking_none v step old = record { size = refl; reason = λ w m. inl m }
 
 -- a mark at a number of steps behind v
 pub marking_more : (v step : ℕ) (old new : List ℕ) (w : ℕ) → Steps v step w → Marking v step old new → Marking v step old (set new w 1)
@@ -86,10 +66,6 @@ marking_more v step old new w why s = record { size = length-set new w 1 ∙ s.s
 
 -- ---- the values that a run strikes
 module _ (n : ℕ) (sums : List ℕ) (components : List ℤ) (products : List ℕ) (t : ℕ) where
-  -- at the start
-  pub struck_none : (old : List ℕ) → Struck n sums components products t old old
-  struck_none old = record { size = refl; reason = λ v l m. inl m }
-
   -- the solution v for the part of difference i is right
   solution_right : (solutions : List ℕ) (c i v : ℕ) → Solutions n t solutions → c ≡ part n sums components products i → c < n → v ≡ get_or solutions c 0 → v < n → (part n sums components products i + t * v) % n ≡ 0
   solution_right solutions c i v s e b f o =
@@ -109,58 +85,58 @@ module _ (n : ℕ) (sums : List ℕ) (components : List ℤ) (products : List �
 
 -- ---- the run of the differences that end with component t at the axis behind axis j, as a part of the tables
 module _
-    (n j t : ℕ) (components : List ℤ) (bounds products sums solutions starts steps : List ℕ)
-    (s : Sievable n j components bounds products sums solutions starts steps) (short : t < lasts)
-    (begin end : ℕ) (b : RunStart bounds j t begin) (e : RunStart bounds j (t + 1) end)
+    (n j t : ℕ) (T : ListTables) (products sums : List ℕ) (M : ModulusTables)
+    (s : Sievable n j T products sums M) (short : t < lasts)
+    (begin end : ℕ) (b : RunStart T.bounds j t begin) (e : RunStart T.bounds j (t + 1) end)
   where
     -- the number of its difference i among all
     abbrev number : ℕ → ℕ
-    number i = get_or bounds (suc j * lasts + t) 0 + i
+    number i = get_or T.bounds (suc j * lasts + t) 0 + i
 
     -- where it stands in the tables
     numbered : (i : ℕ) → begin + i ≡ j * room + number i
     numbered i = omega (arith, b.is)
 
     -- the next bound, as the code and as the tables have it
-    next : get_or bounds (suc j * lasts + (t + 1)) 0 ≡ get_or bounds (suc (suc j * lasts + t)) 0
-    next = ap (λ (c : ℕ). get_or bounds c 0) (omega arith)
+    next : get_or T.bounds (suc j * lasts + (t + 1)) 0 ≡ get_or T.bounds (suc (suc j * lasts + t)) 0
+    next = ap (λ (c : ℕ). get_or T.bounds c 0) (omega arith)
 
     -- its differences are among those of the axis
-    low : (i : ℕ) → get_or bounds (suc j * lasts) 0 ≤ number i
-    low i = omega (arith, bounds_rise bounds s.bounded (suc j * lasts) (suc j * lasts + t) (omega arith) (omega (arith, short, s.readable.inner)))
+    low : (i : ℕ) → get_or T.bounds (suc j * lasts) 0 ≤ number i
+    low i = omega (arith, bounds_rise T.bounds s.bounded (suc j * lasts) (suc j * lasts + t) (omega arith) (omega (arith, short, s.readable.inner)))
 
-    inside : (i : ℕ) → i < end - begin → number i < get_or bounds (suc (suc j * lasts + t)) 0
+    inside : (i : ℕ) → i < end - begin → number i < get_or T.bounds (suc (suc j * lasts + t)) 0
     inside i l = omega (arith, b.is, e.is, next)
 
-    high : (i : ℕ) → i < end - begin → number i < get_or bounds (suc (suc j) * lasts) 0
+    high : (i : ℕ) → i < end - begin → number i < get_or T.bounds (suc (suc j) * lasts) 0
     high i l =
         omega (
           arith,
           short,
           inside i l,
-          bounds_rise bounds s.bounded (suc (suc j * lasts + t)) (suc (suc j) * lasts) (omega (arith, short)) (omega (arith, s.readable.inner)),
+          bounds_rise T.bounds s.bounded (suc (suc j * lasts + t)) (suc (suc j) * lasts) (omega (arith, short)) (omega (arith, s.readable.inner)),
         )
 
     -- its components and sums are those of its differences
-    same_component : (i : ℕ) → i < end - begin → get_or (cut begin end components) i (pos 0) ≡ get_or components (j * room + number i) (pos 0)
-    same_component i l = cut_at begin end components (pos 0) i l ∙ ap (λ (k : ℕ). get_or components k (pos 0)) (numbered i)
+    same_component : (i : ℕ) → i < end - begin → get_or (cut begin end T.components) i (pos 0) ≡ get_or T.components (j * room + number i) (pos 0)
+    same_component i l = cut_at begin end T.components (pos 0) i l ∙ ap (λ (k : ℕ). get_or T.components k (pos 0)) (numbered i)
 
     same_sum : (i : ℕ) → i < end - begin → get_or (cut begin end sums) i 0 ≡ get_or sums (j * room + number i) 0
     same_sum i l = cut_at begin end sums 0 i l ∙ ap (λ (k : ℕ). get_or sums k 0) (numbered i)
 
     -- so are the products
-    same_product : (i : ℕ) → i < end - begin → product n (cut begin end sums) (cut begin end components) (cut (j * places) (j * places + places) products) i ≡ product_at n j components products sums (number i)
+    same_product : (i : ℕ) → i < end - begin → product n (cut begin end sums) (cut begin end T.components) (cut (j * places) (j * places + places) products) i ≡ product_at n j T.components products sums (number i)
     same_product i l =
         ap (λ (x : ℤ). get_or (cut (j * places) (j * places + places) products) (place x) 0) (same_component i l)
         ∙ cut_at (j * places) (j * places + places) products 0 (place x) (omega (arith, place-lt x (s.readable.small.covered (j * room + number i))))
       where
         x : ℤ
-        x = get_or components (j * room + number i) (pos 0)
+        x = get_or T.components (j * room + number i) (pos 0)
 
     -- and the parts
-    same_part : (i : ℕ) → i < end - begin → part n (cut begin end sums) (cut begin end components) (cut (j * places) (j * places + places) products) i ≡ part_at n j components products sums (number i)
+    same_part : (i : ℕ) → i < end - begin → part n (cut begin end sums) (cut begin end T.components) (cut (j * places) (j * places + places) products) i ≡ part_at n j T.components products sums (number i)
     same_part i l =
-        ap (λ (x : ℕ). (x + product n (cut begin end sums) (cut begin end components) (cut (j * places) (j * places + places) products) i) % n) (same_sum i l)
+        ap (λ (x : ℕ). (x + product n (cut begin end sums) (cut begin end T.components) (cut (j * places) (j * places + places) products) i) % n) (same_sum i l)
         ∙ ap (λ (x : ℕ). (get_or sums (j * room + number i) 0 + x) % n) (same_product i l)
 
     -- so many differences
@@ -168,10 +144,10 @@ module _
     run-size = cut-size begin end sums (omega (arith, e.inside, s.readable.summed))
 
     -- it is ready to be struck by
-    pub run-ready : Run n (cut begin end sums) (cut begin end components) (cut (j * places) (j * places + places) products)
+    pub run-ready : Run n (cut begin end sums) (cut begin end T.components) (cut (j * places) (j * places + places) products)
     run-ready = record {
       modulus = s.readable.modulus;
-      paired = cut-size begin end components (omega (arith, e.inside, s.readable.wide)) ∙ sym run-size;
+      paired = cut-size begin end T.components (omega (arith, e.inside, s.readable.wide)) ∙ sym run-size;
       table = cut-size (j * places) (j * places + places) products (omega (arith, s.readable.tabled, s.readable.inner)) ∙ omega arith;
       small = λ i l. subst (λ (x : ℤ). nat_abs x ≤ largest_size) (sym (same_component i (inner i l))) (s.readable.small.covered (j * room + number i));
       sums_below = λ i l. subst (λ (x : ℕ). x < n) (sym (same_sum i (inner i l))) (s.readable.sums_below (number i) (low i) (high i (inner i l)));
@@ -182,10 +158,10 @@ module _
         inner i l = omega (arith, run-size)
 
     -- what it strikes is forbidden
-    pub run_bars : (old new : List ℕ) → Struck n (cut begin end sums) (cut begin end components) (cut (j * places) (j * places + places) products) t old new → Barred n j components bounds products sums old new
+    pub run_bars : (old new : List ℕ) → Struck n (cut begin end sums) (cut begin end T.components) (cut (j * places) (j * places + places) products) t old new → Barred n j T products sums old new
     run_bars old new k = record { size = k.size; reason = λ v l m. go v (k.reason v l m) }
       where
-        go : (v : ℕ) → Marked old v ⊎ Solves n (cut begin end sums) (cut begin end components) (cut (j * places) (j * places + places) products) t v → Marked old v ⊎ Forbidden n j components bounds products sums v
+        go : (v : ℕ) → Marked old v ⊎ Solves n (cut begin end sums) (cut begin end T.components) (cut (j * places) (j * places + places) products) t v → Marked old v ⊎ Forbidden n j T products sums v
         go v (inl m) = inl m
         go v (inr w) = inr record {
           last = t;
@@ -205,21 +181,13 @@ table-cut n t start step r solutions e s =
     (λ c b. get_or-take (start + r - start) (drop start solutions) c 0 (omega arith))
     s.right
 
-module _ (n j : ℕ) (components : List ℤ) (bounds products sums : List ℕ) where
-  -- nothing is struck yet
-  pub barred_none : (old : List ℕ) → Barred n j components bounds products sums old old
-  barred_none old = record { size = refl; reason = λ v l m. inl m }
-
+module _ (n j : ℕ) (T : ListTables) (products sums : List ℕ) where
   -- one run after others
-  pub barred_more : (old new newer : List ℕ) → Barred n j components bounds products sums old new → Barred n j components bounds products sums new newer → Barred n j components bounds products sums old newer
+  pub barred_more : (old new newer : List ℕ) → Barred n j T products sums old new → Barred n j T products sums new newer → Barred n j T products sums old newer
   barred_more old new newer s k = record { size = k.size ∙ s.size; reason = λ v l m. ⊎_elim (s.reason v l) inr (k.reason v l m) }
 
-  -- from no mark at all
-  pub barred_all : (old new : List ℕ) → n ≤ length old → ((v : ℕ) → v < length old → get_or old v 0 ≡ 0) → Barred n j components bounds products sums old new → AllBarred n j components bounds products sums new
-  barred_all old new size none s v l m = ⊎_elim (λ k. absurd (k (none v (omega arith)))) (λ f. f) (s.reason v l m)
-
   -- the marks of one axis put back among all marks
-  pub sieved : (old marks : List ℕ) (k : ℕ) → suc j < axes → k ≡ suc n → n ≤ largest_modulus → length old ≡ suc (axes * largest_modulus) → length marks ≡ k → AllBarred n j components bounds products sums marks → Sieved n j components bounds products sums old (pasted ((j + 1) * largest_modulus) k old marks)
+  pub sieved : (old marks : List ℕ) (k : ℕ) → suc j < axes → k ≡ suc n → n ≤ largest_modulus → length old ≡ suc (axes * largest_modulus) → length marks ≡ k → AllBarred n j T products sums marks → Sieved n j T products sums old (pasted ((j + 1) * largest_modulus) k old marks)
   sieved old marks k a e h size same s = record {
     size = pasted-size ((j + 1) * largest_modulus) k old marks fits same;
     kept = λ i l. pasted-before ((j + 1) * largest_modulus) k old marks fits same 0 i (omega arith);

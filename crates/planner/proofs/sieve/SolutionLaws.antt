@@ -1,23 +1,20 @@
 -- Solutions of c + t v = 0 modulo n: the walk that sets their table, and the steps between them.
 use mathlib.Core.Path.{◌≡◌, sym, ◌∙◌, ap, subst}
 use mathlib.Core.Logic.{◌≢◌}
-use mathlib.Core.List.{List}
-use Prim.Native.Nat.{ℕ, suc, ◌+◌, ◌*◌, ◌-◌, ◌%◌, ◌<◌, ◌≤◌, zero-le}
-use native.Mathlib.Nat.{zero-add, zero-mul, zero-mod, mul-one, mul-add, mul_assoc, add-mod, add-mod-mod, mod-add-mod, add-zero, add_assoc, mul-zero, mul-suc, mod_self}
+use mathlib.Core.List.{List, ◌++◌}
+use Prim.Native.Nat.{ℕ, suc, ◌+◌, ◌*◌, ◌-◌, ◌%◌, ◌<◌, ◌≤◌}
+use native.Mathlib.Nat.{zero-add, zero-mul, zero-mod, mul-one, mul-add, mul_assoc, add-mod, add-mod-mod, mod-add-mod, add_assoc, mul-zero, mul-suc, mod_self}
 use native.Mathlib.Decide.{ℕ_discrete}
 use native.Mathlib.Omega.{arith}
-use lib.ListN.{length, get_or, set, drop, length-set, length-drop}
+use lib.ListN.{length, get_or, set, drop, length-set, length-drop, length-append, get_or-append}
 use lib.Seq.{get_or-drop, get_or-set_same, get_or-set_other}
 use Rattle.rank1.proofs.Modulo.{mod-mul_left}
+use Rattle.planner.specs.declared.tables.ModulusTables.{ModulusTables}
 use Rattle.planner.specs.Sieve.{Steps, Solutions, SolutionsSet, TableAt, TablesTo}
 use Rattle.planner.specs.Sizes.{lasts, solution_room}
 use Rattle.planner.proofs.sieve.Parts.{pasted, pasted-size, pasted-before, pasted_at}
 
 -- ---- steps
--- no step
-pub steps_none : (v step : ℕ) → Steps v step v
-steps_none v step = (0, sym (ap (λ (x : ℕ). v + x) (mul-zero step) ∙ add-zero v))
-
 -- one step more
 pub steps-more : (v step w : ℕ) → Steps v step w → Steps v step (w + step)
 steps-more v step w s =
@@ -51,9 +48,13 @@ negative_sum n p r l e = ap (λ (x : ℕ). (x + p) % n) e ∙ mod-add-mod (n - p
     whole : n - p + p ≡ n
     whole = omega arith
 
--- with no solution set
-pub solutions_none : (n t : ℕ) (xs : List ℕ) → n ≤ length xs → ((c : ℕ) → c < n → get_or xs c 0 ≡ n) → Solutions n t xs
-solutions_none n t xs l f = record { size = l; high = λ c h. omega (arith, f c h); right = λ c h o. absurd (omega (arith, f c h)) }
+-- with no solution set: the first n places hold n
+pub solutions_none : (n t : ℕ) (xs rest : List ℕ) → length xs ≡ n → ((c : ℕ) → c < n → get_or xs c 0 ≡ n) → Solutions n t (xs ++ rest)
+solutions_none n t xs rest l f = record {
+  size = omega (arith, length-append xs rest);
+  high = λ c h. omega (arith, get_or-append xs rest 0 c (omega arith), f c h);
+  right = λ c h o. absurd (omega (arith, get_or-append xs rest 0 c (omega arith), f c h));
+}
 
 -- one solution more
 pub solutions_more : (n t : ℕ) (xs : List ℕ) (c v : ℕ) → c < n → v ≤ n → (c + t * v) % n ≡ 0 → Solutions n t xs → Solutions n t (set xs c v)
@@ -137,58 +138,42 @@ table_kept n t start at k step xs part l within size s = record {
     inner : start + n ≤ length (pasted at k xs part)
     inner = omega (arith, pasted-size at k xs part within size)
 
--- no table yet
-pub tables_none : (n : ℕ) (solutions starts steps : List ℕ) → length solutions ≡ solution_room → length starts ≡ lasts → length steps ≡ lasts → ((t : ℕ) → t < length steps → get_or steps t 0 ≡ 0) → TablesTo n 0 solutions starts steps
-tables_none n solutions starts steps a b c none = record {
-  solved = record { wide = a; starts_size = b; steps-size = c; tables = λ t l m. absurd (m (none t (omega arith))) };
-  high = zero-le;
-  before = λ t l m. absurd (m (none t (omega arith)));
-}
-
--- where there is no room for another
-pub tables_full : (n most more : ℕ) (solutions starts steps : List ℕ) → most ≤ more → more ≤ suc solution_room → TablesTo n most solutions starts steps → TablesTo n more solutions starts steps
-tables_full n most more solutions starts steps l h s = record {
-  solved = s.solved;
-  high = h;
-  before = λ t m o. omega (arith, s.before t m o);
-}
-
 -- one more table, of t, behind the others
 pub tables_more :
-    (n t at k r : ℕ) (solutions starts steps part : List ℕ) → t < lasts → k ≡ n → at + n ≤ solution_room → length part ≡ k → SolutionsSet n t r part
-    → TablesTo n at solutions starts steps → TablesTo n (at + n) (pasted at k solutions part) (set starts t at) (set steps t r)
-tables_more n t at k r solutions starts steps part low e fits size new s = record {
+    (n t at k r : ℕ) (M : ModulusTables) (part : List ℕ) → t < lasts → k ≡ n → at + n ≤ solution_room → length part ≡ k → SolutionsSet n t r part
+    → TablesTo n at M → TablesTo n (at + n) (record { solutions = pasted at k M.solutions part; starts = set M.starts t at; steps = set M.steps t r })
+tables_more n t at k r M part low e fits size new s = record {
   solved = record {
-    wide = pasted-size at k solutions part within size ∙ s.solved.wide;
-    starts_size = length-set starts t at ∙ s.solved.starts_size;
-    steps-size = length-set steps t r ∙ s.solved.steps-size;
+    wide = pasted-size at k M.solutions part within size ∙ s.solved.wide;
+    starts_size = length-set M.starts t at ∙ s.solved.starts_size;
+    steps-size = length-set M.steps t r ∙ s.solved.steps-size;
     tables = λ u l m. table u l m (ℕ_discrete u t);
   };
-  high = omega arith;
+  high = fits;
   before = λ u l m. ends u l m (ℕ_discrete u t);
 }
   where
-    within : at + k ≤ length solutions
+    within : at + k ≤ length M.solutions
     within = omega (arith, s.solved.wide)
 
-    start_new : get_or (set starts t at) t 0 ≡ at
-    start_new = get_or-set_same starts t at 0 (omega (arith, s.solved.starts_size))
+    start_new : get_or (set M.starts t at) t 0 ≡ at
+    start_new = get_or-set_same M.starts t at 0 (omega (arith, s.solved.starts_size))
 
-    step_new : get_or (set steps t r) t 0 ≡ r
-    step_new = get_or-set_same steps t r 0 (omega (arith, s.solved.steps-size))
+    step_new : get_or (set M.steps t r) t 0 ≡ r
+    step_new = get_or-set_same M.steps t r 0 (omega (arith, s.solved.steps-size))
 
-    table : (u : ℕ) → u < lasts → get_or (set steps t r) u 0 ≢ 0 → Dec (u ≡ t) → TableAt n u (get_or (set starts t at) u 0) (get_or (set steps t r) u 0) (pasted at k solutions part)
+    table : (u : ℕ) → u < lasts → get_or (set M.steps t r) u 0 ≢ 0 → Dec (u ≡ t) → TableAt n u (get_or (set M.starts t at) u 0) (get_or (set M.steps t r) u 0) (pasted at k M.solutions part)
     table u l m (yes q) =
-        subst (λ (w : ℕ). TableAt n w (get_or (set starts t at) w 0) (get_or (set steps t r) w 0) (pasted at k solutions part)) (sym q)
-        (rw (start_new, step_new) (table-pasted n t at k r solutions part e within size new))
+        subst (λ (w : ℕ). TableAt n w (get_or (set M.starts t at) w 0) (get_or (set M.steps t r) w 0) (pasted at k M.solutions part)) (sym q)
+        (rw (start_new, step_new) (table-pasted n t at k r M.solutions part e within size new))
     table u l m (no q) =
-        rw (get_or-set_other starts t u at 0 q, get_or-set_other steps t u r 0 q)
-        (table_kept n u (get_or starts u 0) at k (get_or steps u 0) solutions part (s.before u l old) within size (s.solved.tables u l old))
+        rw (get_or-set_other M.starts t u at 0 q, get_or-set_other M.steps t u r 0 q)
+        (table_kept n u (get_or M.starts u 0) at k (get_or M.steps u 0) M.solutions part (s.before u l old) within size (s.solved.tables u l old))
       where
-        old : get_or steps u 0 ≢ 0
-        old z = m (get_or-set_other steps t u r 0 q ∙ z)
+        old : get_or M.steps u 0 ≢ 0
+        old z = m (get_or-set_other M.steps t u r 0 q ∙ z)
 
-    ends : (u : ℕ) → u < lasts → get_or (set steps t r) u 0 ≢ 0 → Dec (u ≡ t) → get_or (set starts t at) u 0 + n ≤ at + n
-    ends u l m (yes q) = omega (arith, ap (λ (w : ℕ). get_or (set starts t at) w 0) q, start_new)
+    ends : (u : ℕ) → u < lasts → get_or (set M.steps t r) u 0 ≢ 0 → Dec (u ≡ t) → get_or (set M.starts t at) u 0 + n ≤ at + n
+    ends u l m (yes q) = omega (arith, ap (λ (w : ℕ). get_or (set M.starts t at) w 0) q, start_new)
     ends u l m (no q) =
-        omega (arith, get_or-set_other starts t u at 0 q, s.before u l (λ z. m (get_or-set_other steps t u r 0 q ∙ z)))
+        omega (arith, get_or-set_other M.starts t u at 0 q, s.before u l (λ z. m (get_or-set_other M.steps t u r 0 q ∙ z)))

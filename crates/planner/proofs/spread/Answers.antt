@@ -1,30 +1,35 @@
--- `spread` meets its contract: a refusal leaves the lent places (`refused`); past it the arguments are what `write_sums`
--- asks for (`spread_clear`), and what it writes is the answer (`given`).
-use mathlib.Core.Path.{refl, sym, ◌∙◌}
+-- `spread` meets its contract: where nothing is refused the arguments are what `write_sums` asks for (`spread_clear`), and what it writes is the answer
+-- (`given`).
+use mathlib.Core.Path.{refl, sym}
 use lib.ListN.{length}
-use Rattle.planner.proofs.CallLaws.{refused, given}
+use Rattle.planner.proofs.CallLaws.{given, given_valid}
 use Rattle.planner.proofs.refusals.HandedLaws.{SpreadHanded, spread_clear}
 use Rattle.planner.proofs.spread.Goals as goal
-use Rattle.planner.proofs.spread.Goals.{Else-spread_refused-ne0}
+use Rattle.planner.proofs.spread.Goals.{In_ok-rows}
 
-pub returns-then-spread_refused-ne0 : goal.returns-then-spread_refused-ne0
-returns-then-spread_refused-ne0 c = record { answered = refused c.spread_refusal-spread_refused.ensures c.if-spread_refused-ne0.true; narrow = λ none. absurd (c.if-spread_refused-ne0.true none) }
-
-handed : (c : Else-spread_refused-ne0) → let a = c.args in SpreadHanded a.plan a.d a.rows.now a.n a.z.now (length a.terms.now) (length a.sums.now)
+handed : (c : In_ok-rows) → let a = c.args in SpreadHanded a.plan a.d a.rows.now a.n a.z.now (length a.terms.now) (length a.sums.now)
 handed c =
     let a = c.args in
-    spread_clear a.plan a.d a.rows.now a.n a.z.now (length a.terms.now) (length a.sums.now) (sym c.spread_refusal-spread_refused.ensures ∙ c.if-spread_refused-ne0.false)
+    spread_clear a.plan a.d a.rows.now a.n a.z.now (length a.terms.now) (length a.sums.now) (sym c.in_ok-rows.ensures.number)
 
-pub prepare_rows-requires : goal.prepare_rows-requires
-prepare_rows-requires c =
-    record { valid_call = (handed (goal.at.prepare_rows-requires c).Else-spread_refused-ne0).valid; products_len = refl }
+pub of-lattice-requires : goal.of-lattice-requires
+of-lattice-requires c =
+    given_valid c.in_ok-rows.ensures.given (handed (goal.at.of-lattice-requires c).In_ok-rows).valid
 
 pub write_sums-requires : goal.write_sums-requires
 write_sums-requires c =
-    let h = handed (goal.at.write_sums-requires c).Else-spread_refused-ne0 in
-    record { ready = c.prepare_rows.ensures; terms_len = (h.term_room, h.sum_room) }
+    let h = handed (goal.at.write_sums-requires c).In_ok-rows in
+    let g = c.in_ok-rows.ensures.given in
+    let m = c.of-lattice.ensures.made in
+    record { ready = c.of-lattice.ensures.ready; terms_len = (rw g.axes (rw g.numbers h.term_room), rw m.0 h.sum_room) }
 
 pub returns : goal.returns
 returns c =
-    let w = c.write_sums in
-    record { answered = given c.spread_refusal-spread_refused.ensures c.if-spread_refused-ne0.false w.ensures.0; narrow = λ none. w.ensures.1 }
+    let g = c.in_ok-rows.ensures.given in
+    let named = rw g.plans at c.write_sums.ensures in
+    let counted = rw g.axes at named in
+    let m = c.of-lattice.ensures.made in
+    let listed = rw g.numbers at counted in
+    let modulus = rw m.0 at listed in
+    let wrote = rw m.1 at modulus in
+    record { answered = given c.in_ok-rows.ensures.number refl wrote.0; narrow = λ none. wrote.1 }

@@ -1,7 +1,6 @@
 -- What a turn of each loop over rows and residues does: counting a residue, adding a term at the residues of a row, the entry
 -- of a row, the sums of one row more, writing the map and the terms, and gathering.
 use mathlib.Core.Path.{◌≡◌, refl, sym, ◌∙◌, ap}
-use mathlib.Core.Logic.{⊎_elim}
 use mathlib.Core.Bool.{Bool, true, false, cond}
 use mathlib.Core.List.{List, [], ◌∷◌, map, Memᴰ}
 use Prim.Native.Nat.{ℕ, suc, ◌+◌, ◌*◌, ◌^◌, ◌<◌, ◌≤◌}
@@ -11,9 +10,9 @@ use native.Mathlib.Omega.{arith}
 use borrow.Author.Rules.{sfits_of}
 use borrow.Author.Tests.{eq-eqb, ne_eqb, eqb-true, eqb-false}
 use lib.Dec.{eqb, leb}
-use lib.IntN.{ℤ, pos, nat_abs, ◌+ℤ◌, ◌*ℤ◌, +ℤ_assoc, +ℤ_idr, *ℤ-zero, *ℤ_comm, suc_ℤ-*ℤ}
+use lib.IntN.{ℤ, pos, nat_abs, ◌+ℤ◌, ◌*ℤ◌, +ℤ_assoc, *ℤ_comm, suc_ℤ-*ℤ}
 use lib.Signed.{mag, quot_z}
-use lib.ListN.{length, get_or, take, set, length-set, length-map, get_or-eq_default}
+use lib.ListN.{length, get_or, take, set, length-set, length-map}
 use lib.Seq.{get_or-set_same, get_or-set_other, get_or-take, length-take-le, take_all, take-take}
 use mir.Syntax.{w32, w64}
 use mir.Val.{to_z, of_z}
@@ -21,13 +20,17 @@ use mir.Facts.{to_z-of_z}
 use Rattle.rank1.specs.Residue.{dot, residue_at}
 use Rattle.rank1.specs.Index.{mirrors}
 use Rattle.rank1.specs.Sums.{mirrors_under, copies_at, copies, residue_map, sum_at, spread_sums, gathered_term, gathers, in32}
-use Rattle.rank1.proofs.Order.{compared}
 use Rattle.rank1.proofs.ResidueLaws.{residue-lt}
 use Rattle.rank1.proofs.MirrorLaws.{mirrors_first}
 use Rattle.rank1.proofs.UpTo.{get_d_map, map-up_to_is}
 use Rattle.rank1.proofs.CountLaws.{count_map, count-take, count-le, at_places}
 use Rattle.rank1.proofs.WholeSums.{abs_add, mag_abs, abs_in32, in32_mag}
 use Rattle.rank1.proofs.SumLaws.{under-length, copies_some, copies-le, row_small, sum_take, sum_part_small, map-length, map-residue, map-copies}
+use Rattle.std.proofs.Common.{Option, None, Some}
+use Rattle.std.specs.Option.{MatchOption, is_some}
+use Rattle.std.specs.Bool.{◌==◌}
+use Rattle.std.specs.List.{count_by}
+use Rattle.std.proofs.lemmas.List.Sums.{sum_by-cons}
 use Rattle.rank1.specs.Tests.{every}
 use Rattle.rank1.proofs.TestLaws.{true_every}
 use Rattle.planner.specs.Sizes.{axes, most_mirrors}
@@ -52,20 +55,16 @@ module _ (x : ℕ) (xs : List ℕ) (t : ℕ) (l : t < length xs) where
       ∙ ap (λ (b : Bool). occurrences x (take t xs) + cond b 1 0) (ne_eqb (get_or xs t 0) x e)
       ∙ add-zero (occurrences x (take t xs))
 
+-- the library counts so too
+pub counted : (x : ℕ) (rs : List ℕ) → count_by (λ r. r == x) rs ≡ occurrences x rs
+counted x [] = refl
+counted x (r ∷ rs) = sum_by-cons (λ r. cond (r == x) 1 0) r rs ∙ ap (λ (k : ℕ). cond (eqb r x) 1 0 + k) (counted x rs)
+
 -- no more than t
 pub occurs_le : (x : ℕ) (xs : List ℕ) (t : ℕ) → t ≤ length xs → occurrences x (take t xs) ≤ t
 occurs_le x xs t l = omega (arith, count-le (λ r. eqb r x) (take t xs), length-take-le t xs l)
 
--- ---- emptying the sums
--- all are 0, and behind the last there is none
-pub clear_all : (sums : List ℤ) → ((r : ℕ) → r < length sums → get_or sums r (pos 0) ≡ pos 0) → (r : ℕ) → get_or sums r (pos 0) ≡ pos 0
-clear_all sums h r = ⊎_elim (h r) (λ l. get_or-eq_default sums (pos 0) {n = r} (⊎_elim (λ e. omega arith) (λ m. omega arith) l)) (compared r (length sums))
-
 -- ---- adding a at the residues
--- nothing is added yet
-pub none_added : (a x : ℤ) → x ≡ x +ℤ (a *ℤ pos 0)
-none_added a x = sym (ap (λ (y : ℤ). x +ℤ y) (*ℤ-zero a) ∙ +ℤ_idr x)
-
 -- once more
 times_more : (a : ℤ) (c : ℕ) → a *ℤ pos (c + 1) ≡ a *ℤ pos c +ℤ a
 times_more a c =
@@ -93,6 +92,18 @@ module _ (a : ℤ) (rs : List ℕ) (old sums : List ℤ) (t : ℕ) (l : t < leng
           get_or-set_other sums x r (get_or sums x (pos 0) +ℤ a) (pos 0) (λ s. eqb-false x r q (sym s))
           ∙ so_far r
           ∙ ap (λ (c : ℕ). get_or old r (pos 0) +ℤ (a *ℤ pos c)) (sym (occurs_not r rs t l (λ s. eqb-false x r q (here ∙ s))))
+
+  -- what stood there had 64 bits
+  pub held_fits : (c : ℕ) → t < c → nat_abs (get_or old x (pos 0)) + c * nat_abs a < 2 ^ 63 → mag (get_or sums x (pos 0)) < 2 ^ 63
+  held_fits c h d =
+      omega (
+        arith,
+        mag_abs (get_or sums x (pos 0)),
+        ap nat_abs (so_far x),
+        abs_add (get_or old x (pos 0)) (a *ℤ pos (occurrences x (take t rs))),
+        row_small a (occurrences x (take t rs)) t (nat_abs a) (occurs_le x rs t (omega arith)) (le_refl (nat_abs a)),
+        mul-le-mul_right {m = t} {n = c} (nat_abs a) (omega arith),
+      )
 
   -- and the sum stays in 64 bits
   pub term_fits : (c : ℕ) → t < c → nat_abs (get_or old x (pos 0)) + c * nat_abs a < 2 ^ 63 → mag (get_or sums x (pos 0) +ℤ a) < 2 ^ 63
@@ -225,7 +236,12 @@ module _ (plan n : ℕ) (z : List ℤ) where
       twice : 2 * (i + 1) ≡ 2 * i + 1 + 1
       twice = omega arith
 
--- ---- gathering, for a row with its entry; y is where the sum is read
+-- ---- gathering, for a row with its entry; y is where the sum is read, and o is its quotient by c
+-- there is one where the sum passes
+some_is : {d : Bool} (Q : ℤ → Type 0) (o : Option ℤ) → MatchOption o (d ≡ false) (λ q. (d ≡ true) × Q q) → d ≡ is_some o
+some_is Q None e = e
+some_is Q (Some q) p = p.0
+
 module _ (plan n : ℕ) (z : List ℕ) (k : List ℤ) (x c : ℕ) (e : EntryOf plan n z k x c) (sums : List ℤ) (y : ℕ) (here : y ≡ x) (fits : mag (get_or sums y (pos 0)) < 2 ^ 63) where
   -- the sum at the row's residue
   sum_read : to_z w64 (of_z w64 (get_or sums y (pos 0))) ≡ get_or sums (residue_at n (map pos z) k) (pos 0)
@@ -233,18 +249,21 @@ module _ (plan n : ℕ) (z : List ℕ) (k : List ℤ) (x c : ℕ) (e : EntryOf p
       to_z-of_z {w = w64} {z = get_or sums y (pos 0)} (sfits_of fits) ∙ ap (λ (j : ℕ). get_or sums j (pos 0)) (here ∙ e.is_residue)
 
   -- the test
-  pub gather_test : divides (to_z w64 (of_z w64 (get_or sums y (pos 0)))) c ≡ gathers plan n (map pos z) sums k
+  gather_test : divides (to_z w64 (of_z w64 (get_or sums y (pos 0)))) c ≡ gathers plan n (map pos z) sums k
   gather_test =
       ap (λ (s : ℤ). divides s c) sum_read ∙ ap (divides (get_or sums (residue_at n (map pos z) k) (pos 0))) e.is_copies
 
+  pub gathers_is : (o : Option ℤ) → MatchOption o (divides (to_z w64 (of_z w64 (get_or sums y (pos 0)))) c ≡ false) (λ q. (divides (to_z w64 (of_z w64 (get_or sums y (pos 0)))) c ≡ true) × (q ≡ quot_z (to_z w64 (of_z w64 (get_or sums y (pos 0)))) (pos c))) → gathers plan n (map pos z) sums k ≡ is_some o
+  gathers_is o h = sym gather_test ∙ some_is (λ q. q ≡ quot_z (to_z w64 (of_z w64 (get_or sums y (pos 0)))) (pos c)) o h
+
   -- the term that is stored, where the row passes
-  pub gather_term : (v : ℤ) → v ≡ quot_z (to_z w64 (of_z w64 (get_or sums y (pos 0)))) (pos c) → gathers plan n (map pos z) sums k ≡ true → to_z w32 (of_z w32 v) ≡ gathered_term plan n (map pos z) sums k
-  gather_term v q p =
+  pub gather_term : (v : ℤ) → (divides (to_z w64 (of_z w64 (get_or sums y (pos 0)))) c ≡ true) × (v ≡ quot_z (to_z w64 (of_z w64 (get_or sums y (pos 0)))) (pos c)) → to_z w32 (of_z w32 v) ≡ gathered_term plan n (map pos z) sums k
+  gather_term v p =
       ap (λ (u : ℤ). to_z w32 (of_z w32 u)) is
-      ∙ to_z-of_z (short (get_or sums (residue_at n (map pos z) k) (pos 0)) (copies plan n (map pos z) k) p)
+      ∙ to_z-of_z (short (get_or sums (residue_at n (map pos z) k) (pos 0)) (copies plan n (map pos z) k) (sym gather_test ∙ p.0))
     where
       is : v ≡ gathered_term plan n (map pos z) sums k
       is =
-          q
+          p.1
           ∙ ap (λ (s : ℤ). quot_z s (pos c)) sum_read
           ∙ ap (λ (j : ℕ). quot_z (get_or sums (residue_at n (map pos z) k) (pos 0)) (pos j)) e.is_copies

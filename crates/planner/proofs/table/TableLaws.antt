@@ -1,17 +1,17 @@
--- The laws of the table: sizes and ends of differences (`upright`, `upright_turned`), and what adding a row gives (`added-joined`, then `added_kept`, `added-stays`, `added-only`).
+-- The laws of the table: sizes and ends of differences (`upright`, `upright_turned`), and what adding a row gives (`rows-joined`, then
+-- `added-stays`, `added-only`, `added-was`).
 use mathlib.Core.Path.{◌≡◌, refl, sym, ◌∙◌, ap, subst}
 use mathlib.Core.Logic.{◌⊎◌, ◌≢◌, inl, inr, ⊎_elim}
-use mathlib.Core.Bool.{true, false}
+use mathlib.Core.Bool.{true, false, true≢false}
 use mathlib.Core.List.Memᴰ
 use mathlib.Core.List.{List, [], ◌∷◌, ◌++◌, Memᴰ}
 use Prim.Native.Nat.{ℕ, zero, suc, ◌+◌, ◌*◌, ◌-◌, ◌<◌, ◌≤◌}
 use native.Mathlib.Nat.{suc-mul, mul-le-mul_right}
-use native.Mathlib.Decide.{ℕ_discrete}
 use native.Mathlib.Omega.{arith}
 use borrow.Author.Tests.{ltb-true}
 use lib.IntN.{ℤ, pos, negsuc, nat_abs, neg_ℤ, ◌-ℤ◌}
-use lib.ListN.{length, get_or, set, take, drop, length-set, get_or-map}
-use lib.Seq.{get_or-set_same, get_or-set_other, paste, length-paste}
+use lib.ListN.{length, get_or, take, drop, get_or-map}
+use lib.Seq.{paste}
 use lib.Signed.{lt_z}
 use mir.Syntax.{w16}
 use mir.Val.{SFits, to_z, of_z}
@@ -22,12 +22,13 @@ use Rattle.rank1.proofs.WholeSums.{abs_add}
 use Rattle.rank1.proofs.MirrorLaws.{abs_zero}
 use Rattle.rank1.proofs.IndexLaws.{row_in}
 use Rattle.rank1.specs.Differences.{minus, negative}
-use Rattle.planner.specs.Sizes.{largest_size, room, slot_count, largest_component}
+use Rattle.planner.specs.Sizes.{axes, largest_size, room, largest_component}
 use Rattle.planner.specs.Inner.{Covered}
-use Rattle.planner.specs.Table.{Subtractable, LastAxis, Upright, Table, Probed, Added, stood, joined, full}
+use Rattle.planner.specs.Table.{rows_found, Subtractable, LastAxis, Upright, Stored, Added, stood, joined, full}
+use Rattle.planner.specs.declared.table.Differences.{Differences}
 use Rattle.rank1.proofs.FlipLaws.{size-neg}
 use Rattle.planner.proofs.RowLaws.{row_joined}
-use Rattle.planner.proofs.products.ProductLaws.{small_fits, read_back, itself, covered_take, covered_drop, covered_append}
+use Rattle.planner.proofs.products.ProductLaws.{small_fits, read_back, itself}
 use Rattle.rank1.proofs.DifferenceLaws.{minus_at, minus-length, minus-swap}
 
 -- ---- sizes
@@ -75,7 +76,7 @@ pub negative_at : (h : List ℤ) (i : ℕ) → get_or (negative h) i (pos 0) ≡
 negative_at h i = get_or-map neg_ℤ h i (pos 0)
 
 -- g is s - t, and j its last axis, where the code reads the sign
-module _ (s t h g : List ℤ) (j : ℕ) (p : Subtractable s t h) (e : g ≡ minus s t) (a : LastAxis g j) where
+module _ (d : ℕ) (s t g : List ℤ) (j : ℕ) (p : Subtractable d s t) (e : g ≡ minus s t) (a : LastAxis g j) where
   same : length s ≡ length t
   same = p.left ∙ sym p.right
 
@@ -116,85 +117,46 @@ module _ (s t h g : List ℤ) (j : ℕ) (p : Subtractable s t h) (e : g ≡ minu
       at i = ap (λ (l : List ℤ). get_or l i (pos 0)) (e' ∙ minus-swap s t ∙ ap negative (sym e)) ∙ negative_at g i
 
 -- ---- the table
--- row o - 1 fits in
-pub row_room : (d count o : ℕ) (rows : List ℤ) (slots : List ℕ) → Table d count rows slots → o ≢ 0 → o ≤ count → (o - 1 + 1) * d ≤ length rows
-row_room d count o rows slots t z l =
-    omega (arith, mul-le-mul_right {m = o - 1 + 1} {n = room} d (omega (arith, t.few)), t.space)
+module _ (d : ℕ) (t : Differences) (s : Stored d t) where
+  -- row o - 1 fits in
+  pub row_room : (o : ℕ) → length t.rows ≡ room * axes → o ≢ 0 → o ≤ t.count → (o - 1 + 1) * d ≤ length t.rows
+  row_room o f z l = omega (arith, mul-le-mul_right {m = o - 1 + 1} {n = room} d (omega (arith, s.few)), s.few_axes)
 
--- where it is h, h stands in the table
-pub row-found : (d count o : ℕ) (rows h : List ℤ) → o ≢ 0 → o ≤ count → take d (drop ((o - 1) * d) rows) ≡ h → Memᴰ h (rows_of d count rows)
-row-found d count o rows h z l e = Memᴰ.cast (sym e) (row_in d count rows (o - 1) (omega arith))
+  -- all rows fit in
+  pub rows-inside : length t.rows ≡ room * axes → t.count * d ≤ length t.rows
+  rows-inside f = omega (arith, mul-le-mul_right {m = t.count} {n = room} d s.few, s.few_axes)
 
--- it stands there where a slot was found that is not empty
-pub stands :
-    (d count p : ℕ) (rows h : List ℤ) (slots : List ℕ) → Probed d count rows slots h p → p ≢ slot_count → get_or slots p 0 ≢ 0
-    → Memᴰ h (rows_of d count rows)
-stands d count p rows h slots q z n = ⊎_elim (λ e. absurd (n e)) (λ m. m) (q.found (omega (arith, q.high)))
+  -- there is room for one more row
+  pub next-room : length t.rows ≡ room * axes → t.count ≢ room → t.count * d + d ≤ length t.rows
+  next-room f z = omega (arith, suc-mul t.count d, mul-le-mul_right {m = suc t.count} {n = room} d (omega (arith, s.few)), s.few_axes)
 
--- there is room for one more row
-pub next-room : (d count : ℕ) (rows : List ℤ) (slots : List ℕ) → Table d count rows slots → count ≢ room → count * d + d ≤ length rows
-next-room d count rows slots t z =
-    omega (arith, suc-mul count d, mul-le-mul_right {m = suc count} {n = room} d (omega (arith, t.few)), t.space)
+-- where row o - 1 is h, h stands in the table
+pub row-found : (d : ℕ) (t : Differences) (o : ℕ) (h : List ℤ) → o ≢ 0 → o ≤ t.count → take d (drop ((o - 1) * d) t.rows) ≡ h → Memᴰ h (rows_found d t)
+row-found d t o h z l e = Memᴰ.cast (sym e) (row_in d t.count t.rows (o - 1) (omega arith))
 
--- a row joins the table, and a slot has its number
-pub table-joined :
-    (d count p : ℕ) (rows h : List ℤ) (slots : List ℕ) → Table d count rows slots → length h ≡ d → count ≢ room → p < slot_count
-    → Table d (count + 1) (paste rows (count * d) h d) (set slots p (count + 1))
-table-joined d count p rows h slots t e z l = record {
-  space = omega (arith, length-paste rows (count * d) h d (next-room d count rows slots t z) (omega arith), t.space);
-  few = omega (arith, t.few);
-  places = length-set slots p (count + 1) ∙ t.places;
-  known = λ q. go q (ℕ_discrete q p);
-}
-  where
-    go : (q : ℕ) → Dec (q ≡ p) → get_or (set slots p (count + 1)) q 0 ≤ count + 1
-    go q (yes f) = omega (arith, ap (λ (k : ℕ). get_or (set slots p (count + 1)) k 0) f, get_or-set_same slots p (count + 1) 0 (omega (arith, t.places)))
-    go q (no f) = omega (arith, get_or-set_other slots p q (count + 1) 0 f, t.known q)
+-- a row that is copied behind the others is the next one
+pub rows-joined :
+    (h rows : List ℤ) (t : Differences) → Stored (length h) t → t.count ≢ room → length t.rows ≡ room * axes
+    → rows ≡ paste t.rows (t.count * length h) h (length h) → rows_of (length h) (t.count + 1) rows ≡ rows_found (length h) t ++ (h ∷ [])
+rows-joined h rows t s few l e =
+    ap (rows_of (length h) (t.count + 1)) e ∙ row_joined (length h) t.count t.rows h refl (next-room (length h) t s l few)
 
--- no number becomes larger than top
-pub paste_covered : (top at n : ℕ) (xs h : List ℤ) → Covered top xs → Covered top h → Covered top (paste xs at h n)
-paste_covered top at n xs h f g =
-    covered_append top (take at xs ++ take n h) (drop (at + n) xs)
-    (covered_append top (take at xs) (take n h) (covered_take top at xs f) (covered_take top n h g))
-    (covered_drop top (at + n) xs f)
-
--- so that is what adding it gives
-pub added-joined :
-    (d count p : ℕ) (rows rows' h : List ℤ) (slots : List ℕ) → Table d count rows slots → length h ≡ d → count ≢ room → p < slot_count
-    → rows' ≡ paste rows (count * d) h (length h) → Added d count h rows rows' slots (set slots p (count + 1)) (count + 1)
-added-joined d count p rows rows' h slots t e z l f =
-    rw (f ∙ ap (paste rows (count * d) h) e)
-    (joined refl (table-joined d count p rows h slots t e z l)
-    (row_joined d count rows h e (next-room d count rows slots t z)))
-
-module _ (d count : ℕ) (h rows rows' : List ℤ) (slots slots' : List ℕ) (r : ℕ) where
-  -- the table afterwards: as it was, or with h behind
-  cases :
-      Added d count h rows rows' slots slots' r → r ≢ 0
-      → ((rows_of d r rows' ≡ rows_of d count rows) × Memᴰ h (rows_of d count rows)) ⊎ (rows_of d r rows' ≡ rows_of d count rows ++ (h ∷ []))
-  cases (stood e f g m) z = inl (ap (λ (k : ℕ). rows_of d k rows') e ∙ ap (rows_of d count) f, m)
-  cases (joined e t f) z = inr f
-  cases (full e f g) z = absurd (z e)
-
-  -- h is in it
-  pub added_kept : Added d count h rows rows' slots slots' r → r ≢ 0 → Memᴰ h (rows_of d r rows')
-  added_kept a z =
-      ⊎_elim (λ w. subst (Memᴰ h) (sym w.0) w.1)
-      (λ e. subst (Memᴰ h) (sym e) (Memᴰ.append_right (rows_of d count rows) (Memᴰ.head refl)))
-      (cases a z)
-
+module _ (d : ℕ) (h : List ℤ) (t t' : Differences) where
   -- every row stays in it
-  pub added-stays :
-      Added d count h rows rows' slots slots' r → r ≢ 0 → (k : List ℤ) → Memᴰ k (rows_of d count rows)
-      → Memᴰ k (rows_of d r rows')
-  added-stays a z k m =
-      ⊎_elim (λ w. subst (Memᴰ k) (sym w.0) m) (λ e. subst (Memᴰ k) (sym e) (Memᴰ.append_left (h ∷ []) m)) (cases a z)
+  pub added-stays : Added d h t t' → (k : List ℤ) → Memᴰ k (rows_found d t) → Memᴰ k (rows_found d t')
+  added-stays (stood e m) k n = subst (λ (u : Differences). Memᴰ k (rows_found d u)) (sym e) n
+  added-stays (joined e w) k n = subst (Memᴰ k) (sym e) (Memᴰ.append_left (h ∷ []) n)
+  added-stays (full e w) k n = subst (Memᴰ k) (sym e) n
 
-  -- and no other is
-  pub added-only :
-      Added d count h rows rows' slots slots' r → r ≢ 0 → (k : List ℤ) → Memᴰ k (rows_of d r rows')
-      → Memᴰ k (rows_of d count rows) ⊎ (k ≡ h)
-  added-only a z k m =
-      ⊎_elim (λ w. inl (subst (Memᴰ k) w.0 m))
-      (λ e. ⊎_elim inl (λ o. inr (Memᴰ.eq_of_singleton o)) (Memᴰ.append_cases (rows_of d count rows) (subst (Memᴰ k) e m)))
-      (cases a z)
+  -- and no other is but h
+  pub added-only : Added d h t t' → (k : List ℤ) → Memᴰ k (rows_found d t') → Memᴰ k (rows_found d t) ⊎ (k ≡ h)
+  added-only (stood e m) k n = inl (subst (λ (u : Differences). Memᴰ k (rows_found d u)) e n)
+  added-only (joined e w) k n =
+      ⊎_elim inl (λ o. inr (Memᴰ.eq_of_singleton o)) (Memᴰ.append_cases (rows_found d t) (subst (Memᴰ k) e n))
+  added-only (full e w) k n = inl (subst (Memᴰ k) e n)
+
+  -- it is whole only where it was, and has h then
+  pub added-was : Added d h t t' → t'.whole ≡ true → (t.whole ≡ true) × Memᴰ h (rows_found d t')
+  added-was (stood e m) w = (ap (λ (u : Differences). u.whole) (sym e) ∙ w, subst (λ (u : Differences). Memᴰ h (rows_found d u)) (sym e) m)
+  added-was (joined e v) w = (sym v ∙ w, subst (Memᴰ h) (sym e) (Memᴰ.append_right (rows_found d t) (Memᴰ.head refl)))
+  added-was (full e v) w = absurd (true≢false (sym w ∙ v))

@@ -1,20 +1,55 @@
--- The largest component of what is left of a vector, read with drop.
-use mathlib.Core.Path.{◌≡◌, refl}
-use mathlib.Core.List.{List, [], ◌∷◌}
-use Prim.Native.Nat.{ℕ, zero, suc, ◌+◌, ◌<◌, ◌≤◌, max}
-use native.Mathlib.Numerals.{add-one}
-use native.Mathlib.Omega.{arith}
-use lib.ListN.{length, get_or, drop}
-use lib.Seq.{drop-cons}
-use Rattle.rank1.specs.Search.{largest}
+-- The largest component of a vector is what `max` picks of its components, and `<` of two vectors is dictionary order.
+use Rattle.std.proofs.Common.{◌≡◌, ◌≢◌, refl, sym, ◌∙◌, List, [], ◌∷◌, length, ℕ, max, arith, Bool, true, false, cond, eqb, ltb, Some, inl, inr, ltb-true, ltb-false}
+use mathlib.Core.Bool.{true≢false}
+use mathlib.Core.Logic.{⊎_elim}
+use borrow.Author.Tests.{eq-eqb, ne_eqb}
+use Rattle.std.specs.Ordering.{nat_cmp, is_lt, is_some_and}
+use Rattle.std.specs.Cmp.Lexicographic.{slice_partial_cmp}
+use Rattle.std.proofs.lemmas.Bool.Decides.{nat_tests}
+use Rattle.std.proofs.lemmas.Cmp.{same_from_slice_cmp_tested}
+use Rattle.std.specs.List.{fold, reduce}
+use Rattle.std.specs.Option.{unwrap_or}
+use Rattle.rank1.specs.Tests.{Decides}
+use Rattle.rank1.specs.Search.{largest, Before}
+use Rattle.rank1.proofs.Order.{compared}
 
--- one component apart
-pub largest_left : (z : List ℕ) (i : ℕ) → i < length z → largest (drop i z) ≡ max (get_or z i 0) (largest (drop (i + 1) z))
-largest_left z i l = rw (add-one i, drop-cons z i 0 l)
+-- with a first one a
+fold_largest : (a : ℕ) (z : List ℕ) → fold max a z ≡ max a (largest z)
+fold_largest a [] = omega arith
+fold_largest a (b ∷ z) = fold_largest (max a b) z ∙ omega arith
 
--- of nothing
-pub largest_end : (z : List ℕ) (i : ℕ) → length z ≤ i → largest (drop i z) ≡ 0
-largest_end [] zero l = refl
-largest_end [] (suc i) l = refl
-largest_end (a ∷ z) zero l = absurd (omega arith)
-largest_end (a ∷ z) (suc i) l = largest_end z i (omega arith)
+pub largest_is : (z : List ℕ) → unwrap_or (reduce max z) 0 ≡ largest z
+largest_is [] = refl
+largest_is (a ∷ z) = fold_largest a z
+
+-- the test of dictionary order
+abbrev pub comes_before : List ℕ → List ℕ → Bool
+comes_before [] [] = false
+comes_before [] (b ∷ z) = true
+comes_before (a ∷ y) [] = false
+comes_before (a ∷ y) (b ∷ z) = cond (eqb a b) (comes_before y z) (ltb a b)
+
+pub decides_before : (y z : List ℕ) → length y ≡ length z → Decides (comes_before y z) (Before y z)
+unfolding Before
+decides_before [] [] e = record { yes = λ t. absurd (true≢false (sym t)); no = λ _ b. b }
+decides_before [] (b ∷ z) e = absurd (omega arith)
+decides_before (a ∷ y) [] e = absurd (omega arith)
+decides_before (a ∷ y) (b ∷ z) e =
+    ⊎_elim
+    (λ l. first (omega arith))
+    (⊎_elim (λ same. tied same (decides_before y z (omega arith))) (λ l. first (omega arith)))
+    (compared a b)
+  where
+    first : a ≢ b → Decides (comes_before (a ∷ y) (b ∷ z)) (Before (a ∷ y) (b ∷ z))
+    first other = rw (ne_eqb a b other) (record {
+      yes = λ t. inl (ltb-true a b t);
+      no = λ f. ⊎_elim (λ l. omega (arith, ltb-false a b f)) (λ p. other p.0);
+    })
+
+    tied : a ≡ b → Decides (comes_before y z) (Before y z) → Decides (comes_before (a ∷ y) (b ∷ z)) (Before (a ∷ y) (b ∷ z))
+    tied same rest =
+        rw (eq-eqb a b same) (record { yes = λ t. inr (same, rest.yes t); no = λ f. ⊎_elim (λ l. omega arith) (λ p. rest.no f p.1) })
+
+-- what `<` of two vectors answers
+pub less_is : (y z : List ℕ) (r : Bool) → r ≡ is_some_and is_lt (slice_partial_cmp (λ a b. Some (nat_cmp a b)) y z) → r ≡ comes_before y z
+less_is = same_from_slice_cmp_tested nat_cmp is_lt comes_before refl (λ _ _. refl) (λ _ _. refl) (λ a b y z o h. grind (arith, nat_tests))

@@ -1,33 +1,21 @@
--- Digits at a place of a text: how many stand there, counted up to 7 (Counted, for digit_count), and the number that they write
--- (Valued, for value_at), each grown by one digit a turn.
-use mathlib.Core.Path.{◌≡◌, refl, sym, ◌∙◌, ap}
+-- Digits: those at the front of a text are its front (digits_front) and as many as pass the test one behind the other
+-- (digits_taken); and the number that a few digits write, grown by one digit a turn (Valued, for value_of).
+use mathlib.Core.Path.{◌≡◌, refl, sym, ◌∙◌, ap, subst}
 use mathlib.Core.Bool.{Bool, true, false, cond}
 use mathlib.Core.List.{List, [], ◌∷◌, ◌++◌}
-use Prim.Native.Nat.{ℕ, zero, suc, ◌+◌, ◌-◌, ◌*◌, ◌^◌, ◌≤◌, ◌<◌, min}
-use native.Mathlib.Nat.{zero-add, add-zero, add_assoc, pow-suc, pow-le-pow_right}
+use Prim.Native.Nat.{ℕ, zero, suc, ◌+◌, ◌-◌, ◌*◌, ◌^◌, ◌≤◌, ◌<◌}
+use native.Mathlib.Nat.{pow-suc}
 use native.Mathlib.Numerals.{add-one}
 use native.Mathlib.Omega.{arith}
-use lib.Dec.{lit<}
-use lib.ListN.{length, get_or, take, drop, length-drop, drop_of_length-le}
-use lib.Seq.{drop-cons, take-suc, get_or-drop}
+use lib.ListN.{length, get_or, take}
+use lib.Seq.{take-suc}
+use Rattle.std.specs.List.{take_while}
+use Rattle.std.proofs.lemmas.List.Sums.{take_while-cons}
+use Rattle.rank1.specs.Tests.{every}
 use Rattle.request.specs.Text.{is_digit, digits, decimal_from, decimal}
-use Rattle.request.proofs.CondLaws.{cond_true, cond_false, within_of}
+use Rattle.request.proofs.CondLaws.{both_true, within_of}
 
 -- ---- digits
--- a digit and those behind it; no digit; the text's end
-pub digits_more : (text : List ℕ) (i : ℕ) → i < length text → is_digit (get_or text i 0) ≡ true → digits (drop i text) ≡ get_or text i 0 ∷ digits (drop (i + 1) text)
-digits_more text i l e =
-    ap digits (drop-cons text i 0 l)
-    ∙ cond_true (is_digit (get_or text i 0)) (get_or text i 0 ∷ digits (drop (suc i) text)) [] e
-    ∙ ap (λ (k : ℕ). get_or text i 0 ∷ digits (drop k text)) (sym (add-one i))
-
-pub digits_none : (text : List ℕ) (i : ℕ) → i < length text → is_digit (get_or text i 0) ≡ false → digits (drop i text) ≡ []
-digits_none text i l e =
-    ap digits (drop-cons text i 0 l) ∙ cond_false (is_digit (get_or text i 0)) (get_or text i 0 ∷ digits (drop (suc i) text)) [] e
-
-pub digits_end : (text : List ℕ) (i : ℕ) → length text ≤ i → digits (drop i text) ≡ []
-digits_end text i l = ap digits (drop_of_length-le text l)
-
 -- the digits are the front of the text
 front : (t : Bool) (b : ℕ) (s : List ℕ) → digits s ≡ take (length (digits s)) s → cond t (b ∷ digits s) [] ≡ take (length (cond t (b ∷ digits s) [])) (b ∷ s)
 front true b s e = ap (λ (r : List ℕ). b ∷ r) e
@@ -38,14 +26,18 @@ digits_front [] = refl
 digits_front (b ∷ s) = front (is_digit b) b s (digits_front s)
 
 -- each of them is a digit
-pub digit_at : (s : List ℕ) (i : ℕ) → i < length (digits s) → (48 ≤ get_or s i 0) × (get_or s i 0 ≤ 57)
-digit_at [] i l = absurd (omega arith)
-digit_at (b ∷ s) i l = go (is_digit b) refl (digit_at s) i l
+pub all_digits : (s : List ℕ) → every is_digit (digits s) ≡ true
+all_digits [] = refl
+all_digits (b ∷ s) = go (is_digit b) refl (all_digits s)
   where
-    go : (t : Bool) → is_digit b ≡ t → ((i : ℕ) → i < length (digits s) → (48 ≤ get_or s i 0) × (get_or s i 0 ≤ 57)) → (i : ℕ) → i < length (cond t (b ∷ digits s) []) → (48 ≤ get_or (b ∷ s) i 0) × (get_or (b ∷ s) i 0 ≤ 57)
-    go true e rest zero l = within_of 48 57 b e
-    go true e rest (suc i) l = rest i (omega arith)
-    go false e rest i l = absurd (omega arith)
+    go : (t : Bool) → is_digit b ≡ t → every is_digit (digits s) ≡ true → every is_digit (cond t (b ∷ digits s) []) ≡ true
+    go true e h = rw e h
+    go false e h = refl
+
+-- they are the bytes that pass the test, one behind the other
+pub digits_taken : (s : List ℕ) → take_while is_digit s ≡ digits s
+digits_taken [] = refl
+digits_taken (b ∷ s) = take_while-cons is_digit b s ∙ ap (λ (r : List ℕ). cond (is_digit b) (b ∷ r) []) (digits_taken s)
 
 -- ---- the number that digits write
 decimal-last : (v : ℕ) (s : List ℕ) (b : ℕ) → decimal_from v (s ++ (b ∷ [])) ≡ decimal_from v s * 10 + (b - 48)
@@ -61,68 +53,19 @@ decimal-more s i l =
 bound-more : (v i b : ℕ) → v < 10 ^ i → b ≤ 57 → v * 10 + (b - 48) < 10 ^ (i + 1)
 bound-more v i b l h = rw (add-one, pow-suc) (omega arith)
 
-bound-six : (i : ℕ) → i ≤ 6 → 10 ^ i ≤ 1000000
-bound-six i l = pow-le-pow_right {n = 10} (omega arith) {i = i} {j = 6} l
-
--- ---- counting digits up to 7: `count` of them stand there, and the rest is left
-pub record Counted (text : List ℕ) (at count : ℕ) : Type 0 where
-  pub few : count ≤ 7
-  pub inside : at + count ≤ length text
-  pub left : length (digits (drop at text)) ≡ count + length (digits (drop (at + count) text))
-
-pub counted_none : (text : List ℕ) (at : ℕ) → at ≤ length text → Counted text at 0
-counted_none text at l = record {
-  few = omega arith;
-  inside = omega arith;
-  left = ap (λ (k : ℕ). length (digits (drop k text))) (sym (add-zero at)) ∙ sym (zero-add (length (digits (drop (at + 0) text))));
-}
-
-pub counted-more : (text : List ℕ) (at count : ℕ) → Counted text at count → count < 7 → at + count < length text → is_digit (get_or text (at + count) 0) ≡ true → Counted text at (count + 1)
-counted-more text at count so_far l h e =
-    let more : length (digits (drop (at + count) text)) ≡ suc (length (digits (drop (at + (count + 1)) text))) =
-    ap length (digits_more text (at + count) h e) ∙ ap (λ (k : ℕ). suc (length (digits (drop k text)))) (add_assoc at count 1) in
-    record {
-      few = omega arith;
-      inside = omega arith;
-      left = omega (arith, so_far.left);
-    }
-
--- no digit follows, or there are 7
-pub counted_all : (text : List ℕ) (at count : ℕ) → Counted text at count → digits (drop (at + count) text) ≡ [] → count ≡ min 7 (length (digits (drop at text)))
-counted_all text at count so_far e = omega (arith, so_far.few, so_far.left, ap length e)
-
-pub counted_seven : (text : List ℕ) (at count : ℕ) → Counted text at count → 7 ≤ count → count ≡ min 7 (length (digits (drop at text)))
-counted_seven text at count so_far l = omega (arith, so_far.few, so_far.left)
-
--- ---- the value of a few digits, from the first one on
-pub record Valued (text : List ℕ) (at value i : ℕ) : Type 0 where
-  pub is : value ≡ decimal (take i (drop at text))
+-- ---- the value of the first i of a few digits
+pub record Valued (s : List ℕ) (value i : ℕ) : Type 0 where
+  pub is : value ≡ decimal (take i s)
   pub bound : value < 10 ^ i
 
-pub valued_none : (text : List ℕ) (at : ℕ) → Valued text at 0 0
-valued_none text at = record { is = refl; bound = lit< tt }
-
 -- the byte at i is a digit
-pub digit_next : (text : List ℕ) (at i : ℕ) → i < length (digits (drop at text)) → (48 ≤ get_or text (at + i) 0) × (get_or text (at + i) 0 ≤ 57)
-digit_next text at i l =
-    let d = digit_at (drop at text) i l in
-    (omega (arith, d.0, get_or-drop at text i 0), omega (arith, d.1, get_or-drop at text i 0))
+pub digit_next : (s : List ℕ) (i : ℕ) → every is_digit s ≡ true → i < length s → (48 ≤ get_or s i 0) × (get_or s i 0 ≤ 57)
+digit_next [] i h l = absurd (omega arith)
+digit_next (b ∷ s) zero h l = within_of 48 57 b (both_true (is_digit b) (every is_digit s) h).0
+digit_next (b ∷ s) (suc i) h l = digit_next s i (both_true (is_digit b) (every is_digit s) h).1 (omega arith)
 
-pub valued_more : (text : List ℕ) (at value i : ℕ) → Valued text at value i → at + i < length text → i < length (digits (drop at text)) → Valued text at (value * 10 + (get_or text (at + i) 0 - 48)) (i + 1)
-valued_more text at value i so_far l h = record {
-  is =
-      ap (λ (v : ℕ). v * 10 + (get_or text (at + i) 0 - 48)) so_far.is
-      ∙ ap (λ (b : ℕ). decimal (take i (drop at text)) * 10 + (b - 48)) (sym (get_or-drop at text i 0))
-      ∙ sym (decimal-more (drop at text) i (omega (arith, length-drop at text)));
-  bound = bound-more value i (get_or text (at + i) 0) so_far.bound (digit_next text at i h).1;
+pub valued_more : (s : List ℕ) (value i x : ℕ) → every is_digit s ≡ true → Valued s value i → i < length s → x ≡ get_or s i 0 - 48 → Valued s (value * 10 + x) (i + 1)
+valued_more s value i x h so_far l e = record {
+  is = ap (λ (v : ℕ). v * 10 + x) so_far.is ∙ ap (λ (d : ℕ). decimal (take i s) * 10 + d) e ∙ sym (decimal-more s i l);
+  bound = subst (λ (d : ℕ). value * 10 + d < 10 ^ (i + 1)) (sym e) (bound-more value i (get_or s i 0) so_far.bound (digit_next s i h l).1);
 }
-
-pub valued_small : (text : List ℕ) (at value i : ℕ) → Valued text at value i → i ≤ 6 → value < 1000000
-valued_small text at value i so_far l = omega (arith, so_far.bound, bound-six i l)
-
--- fewer than 6: another digit fits
-pub valued_room : (text : List ℕ) (at value i : ℕ) → Valued text at value i → i < 6 → value < 100000
-valued_room text at value i so_far l = omega (arith, so_far.bound, bound_five i (omega arith))
-  where
-    bound_five : (i : ℕ) → i ≤ 5 → 10 ^ i ≤ 100000
-    bound_five i l = pow-le-pow_right {n = 10} (omega arith) {i = i} {j = 5} l

@@ -1,5 +1,5 @@
 -- A line by what is left of it: fields that were read are put before those that are left (prepend), one field a turn (LineSoFar, for
--- read_head and read_row).
+-- Reader::row).
 use mathlib.Core.Path.{◌≡◌, refl, sym, ◌∙◌, ap}
 use mathlib.Core.List.{List, [], ◌∷◌, ◌++◌, append-nil, append_assoc}
 use Prim.Native.Nat.{ℕ, zero, suc, ◌+◌, ◌-◌, ◌≤◌, ◌<◌}
@@ -7,7 +7,6 @@ use native.Mathlib.Nat.{sub-zero}
 use native.Mathlib.Omega.{arith}
 use borrow.Author.Tests.{lt-ltb, le-ltb}
 use lib.Dec.{ltb}
-use lib.ListN.{length, drop}
 use Rattle.request.specs.Text.{space, newline}
 use Rattle.request.specs.Reading.{Parsed, bad, got, and_then, read_line}
 use Rattle.request.specs.Inner.{before, separator_of}
@@ -62,54 +61,45 @@ separator_left_lem : (j d k : ℕ) → d ≡ j + suc k → separator_of j d ≡ 
 separator_left_lem j d zero e = cond_false (ltb (j + 1) d) space newline (le-ltb (j + 1) d (omega arith))
 separator_left_lem j d (suc k) e = cond_true (ltb (j + 1) d) space newline (lt-ltb (j + 1) d (omega arith))
 
--- ---- a line of d fields from a place on, one field a turn: the first j fields xs are read, and the others are left
-pub record LineSoFar {A : Type 0} (field : List ℕ → Parsed A) (text : List ℕ) (at d : ℕ) (xs : List A) (j place : ℕ) : Type 0 where
+-- ---- a line of d fields, one field a turn: the first j fields xs are read, and the others are left
+pub record LineSoFar {A : Type 0} (field : List ℕ → Parsed A) (s : List ℕ) (d : ℕ) (xs : List A) (j : ℕ) (rest : List ℕ) : Type 0 where
   pub few : j ≤ d
-  pub inside : place ≤ length text
-  pub left : read_line field d (drop at text) ≡ prepend xs (line_left field (d - j) (drop place text))
+  pub left : read_line field d s ≡ prepend xs (line_left field (d - j) rest)
 
-module _ {A : Type 0} (field : List ℕ → Parsed A) (text : List ℕ) (at d : ℕ) where
-  pub line-start : at ≤ length text → 1 ≤ d → LineSoFar field text at d [] 0 at
-  line-start l some = record {
+module _ {A : Type 0} (field : List ℕ → Parsed A) (s : List ℕ) (d : ℕ) where
+  pub line-start : 1 ≤ d → LineSoFar field s d [] 0 s
+  line-start some = record {
     few = omega arith;
-    inside = l;
-    left = rw sub-zero (line_all field d (drop at text) some ∙ prepend_none (line_left field d (drop at text)));
+    left = rw sub-zero (line_all field d s some ∙ prepend_none (line_left field d s));
   }
 
-  module _ (xs : List A) (j place : ℕ) (so_far : LineSoFar field text at d xs j place) where
+  module _ (xs : List A) (j : ℕ) (rest : List ℕ) (so_far : LineSoFar field s d xs j rest) where
     module _ (more : j < d) where
       -- how many fields are left behind the next one
       abbrev behind_it : ℕ
       behind_it = d - suc j
 
-      next_left : read_line field d (drop at text) ≡ prepend xs (line_left field (suc behind_it) (drop place text))
+      next_left : read_line field d s ≡ prepend xs (line_left field (suc behind_it) rest)
       next_left =
           let left : d - j ≡ suc behind_it = omega arith in
-          so_far.left ∙ ap (λ (n : ℕ). prepend xs (line_left field n (drop place text))) left
+          so_far.left ∙ ap (λ (n : ℕ). prepend xs (line_left field n rest)) left
 
-      next_byte : before (separator_left behind_it) (field (drop place text)) ≡ before (separator_of j d) (field (drop place text))
-      next_byte = ap (λ (b : ℕ). before b (field (drop place text))) (sym (separator_left_lem j d behind_it (omega arith)))
+      next_byte : before (separator_left behind_it) (field rest) ≡ before (separator_of j d) (field rest)
+      next_byte = ap (λ (b : ℕ). before b (field rest)) (sym (separator_left_lem j d behind_it (omega arith)))
 
       -- a field is read
-      pub line-next : (x : A) (behind : ℕ) → before (separator_of j d) (field (drop place text)) ≡ got x (drop behind text) → behind ≤ length text → LineSoFar field text at d (xs ++ (x ∷ [])) (j + 1) behind
-      line-next x behind e l =
+      pub line-next : (x : A) (behind : List ℕ) → before (separator_of j d) (field rest) ≡ got x behind → LineSoFar field s d (xs ++ (x ∷ [])) (j + 1) behind
+      line-next x behind e =
           let left : behind_it ≡ d - (j + 1) = omega arith in
           record {
             few = omega arith;
-            inside = l;
             left =
                 next_left
-                ∙ ap (prepend xs) (line_got field behind_it (drop place text) x (drop behind text) (next_byte ∙ e))
-                ∙ prepend_twice xs (x ∷ []) (line_left field behind_it (drop behind text))
-                ∙ ap (λ (n : ℕ). prepend (xs ++ (x ∷ [])) (line_left field n (drop behind text))) left;
+                ∙ ap (prepend xs) (line_got field behind_it rest x behind (next_byte ∙ e))
+                ∙ prepend_twice xs (x ∷ []) (line_left field behind_it behind)
+                ∙ ap (λ (n : ℕ). prepend (xs ++ (x ∷ [])) (line_left field n behind)) left;
           }
 
       -- a field is out of form, or another byte stands behind it
-      pub line_stop : before (separator_of j d) (field (drop place text)) ≡ bad → read_line field d (drop at text) ≡ bad
-      line_stop e = next_left ∙ ap (prepend xs) (line_bad field behind_it (drop place text) (next_byte ∙ e))
-
-    -- all fields are read
-    pub line_done : d ≤ j → read_line field d (drop at text) ≡ got xs (drop place text)
-    line_done l =
-        let none : d - j ≡ 0 = omega (arith, so_far.few) in
-        so_far.left ∙ ap (λ (n : ℕ). prepend xs (line_left field n (drop place text))) none ∙ prepend_end xs (drop place text)
+      pub line_stop : before (separator_of j d) (field rest) ≡ bad → read_line field d s ≡ bad
+      line_stop e = next_left ∙ ap (prepend xs) (line_bad field behind_it rest (next_byte ∙ e))

@@ -1,18 +1,21 @@
--- Rows by what is left of them: a row one field a turn (RowSoFar, for read_row), and rows one row a turn (RowsSoFar, for
--- read_rows), as they are read and written.
+-- Rows by what is left of them: a row one field a turn (RowSoFar, for Reader::row), and rows one row a turn (RowsSoFar, for
+-- Reader::rows), as they are read and written.
 use mathlib.Core.Path.{◌≡◌, refl, sym, ◌∙◌, ap}
-use mathlib.Core.List.{List, [], ◌∷◌, ◌++◌, map, map-append, append-nil, append_assoc}
+use mathlib.Core.List.{List, [], ◌∷◌, ◌++◌, map, map-append}
 use Prim.Native.Nat.{ℕ, suc, ◌+◌, ◌-◌, ◌*◌, ◌≤◌, ◌<◌}
-use native.Mathlib.Nat.{zero-add, add-zero, add_assoc, sub-zero, zero-mul}
+use native.Mathlib.Nat.{mul-le-mul_right}
 use native.Mathlib.Numerals.{add-one}
 use native.Mathlib.Omega.{arith}
 use lib.IntN.{ℤ}
-use lib.ListN.{length, take, drop, set, length-append, length-set}
-use lib.Seq.{take-suc-set}
+use lib.ListN.{length, take, drop, set, length-map, length-drop}
+use lib.Seq.{take-suc-set, take_all, length-take-le}
+use borrow.Rule.Slice.PartMut.{put_mid}
+use Rattle.std.proofs.lemmas.Slice.{take-put_mid}
 use Rattle.request.specs.Reading.{Parsed, bad, got, and_then, read_line, read_signed, read_rows}
-use Rattle.request.specs.Inner.{before, clamped, separator_of, RunGot}
+use Rattle.request.specs.Inner.{before, clamped, separator_of, mapped}
 use Rattle.request.proofs.RequestLaws.{members_got, line-members}
-use Rattle.request.proofs.reading.LineLaws.{prepend, prepend_none, prepend_twice, prepend_end, LineSoFar, line-start, line-next, line_done}
+use Rattle.request.proofs.reading.ByteLaws.{mapped_bad, mapped_got}
+use Rattle.request.proofs.reading.LineLaws.{prepend, prepend_twice, prepend_end, LineSoFar, line-start, line-next, line_stop}
 
 -- ---- rows by what is left of them
 -- the next row is out of form, or it is got
@@ -22,109 +25,93 @@ rows_bad d m s e = ap (λ (p : Parsed (List ℤ)). and_then p (λ k r. prepend k
 pub rows_got : (d m : ℕ) (s : List ℕ) (row : List ℤ) (t : List ℕ) → read_line read_signed d s ≡ got row t → read_rows d (suc m) s ≡ prepend row (read_rows d m t)
 rows_got d m s row t e = ap (λ (p : Parsed (List ℤ)). and_then p (λ k r. prepend k (read_rows d m r))) e
 
--- ---- a row, one field a turn: j fields are read, and written behind the first `base` places
-pub record RowSoFar (text : List ℕ) (at d base : ℕ) (old rows : List ℤ) (j place : ℕ) : Type 0 where
+-- ---- a row, one field a turn: j fields are read, and stand clamped in the first places
+pub record RowSoFar (s : List ℕ) (d : ℕ) (places : List ℤ) (j : ℕ) (rest : List ℕ) : Type 0 where
   pub fields : List ℤ
-  pub line : LineSoFar read_signed text at d fields j place
-  pub room : length rows ≡ length old
-  pub size : length fields ≡ j
-  pub written : take (base + j) rows ≡ take base old ++ map clamped fields
+  pub line : LineSoFar read_signed s d fields j rest
+  pub written : take j places ≡ map clamped fields
 
-pub row-start : (text : List ℕ) (at d base : ℕ) (old : List ℤ) → at ≤ length text → 1 ≤ d → RowSoFar text at d base old old 0 at
-row-start text at d base old l some = record {
-  fields = [];
-  line = line-start read_signed text at d l some;
-  room = refl;
-  size = refl;
-  written = ap (λ (k : ℕ). take k old) (add-zero base) ∙ sym (append-nil (take base old));
-}
+pub row-start : (s : List ℕ) (d : ℕ) (places : List ℤ) → 1 ≤ d → RowSoFar s d places 0 s
+row-start s d places some = record { fields = []; line = line-start read_signed s d some; written = refl }
 
--- a field is read and written
-pub row_more : (text : List ℕ) (at d base : ℕ) (old rows : List ℤ) (j place : ℕ) (x v : ℤ) (behind : ℕ) → RowSoFar text at d base old rows j place → j < d → base + d ≤ length old → before (separator_of j d) (read_signed (drop place text)) ≡ got x (drop behind text) → behind ≤ length text → v ≡ clamped x → RowSoFar text at d base old (set rows (base + j) v) (j + 1) behind
-row_more text at d base old rows j place x v behind so_far l fits e inside c = record {
-  fields = so_far.fields ++ (x ∷ []);
-  line = line-next read_signed text at d so_far.fields j place so_far.line l x behind e inside;
-  room = length-set rows (base + j) v ∙ so_far.room;
-  size = length-append so_far.fields (x ∷ []) ∙ ap (λ (n : ℕ). n + 1) so_far.size;
-  written =
-      ap (λ (n : ℕ). take n (set rows (base + j) v)) (sym (add_assoc base j 1) ∙ add-one (base + j))
-      ∙ take-suc-set rows (base + j) v (omega (arith, so_far.room))
-      ∙ ap (λ (t : List ℤ). t ++ (v ∷ [])) so_far.written
-      ∙ append_assoc (take base old) (map clamped so_far.fields) (v ∷ [])
-      ∙ ap (λ (t : List ℤ). take base old ++ t) (ap (λ (y : ℤ). map clamped so_far.fields ++ (y ∷ [])) c ∙ sym (map-append clamped so_far.fields (x ∷ [])));
-}
+module _ (s : List ℕ) (d : ℕ) (places : List ℤ) (j : ℕ) (rest : List ℕ) (so_far : RowSoFar s d places j rest) where
+  module _ (more : j < d) where
+    -- a field is read and written
+    pub row_more : (v : ℤ) (left : List ℕ) → j < length places → mapped clamped (before (separator_of j d) (read_signed rest)) ≡ got v left → RowSoFar s d (set places j v) (j + 1) left
+    row_more v left fits e =
+        let field = mapped_got clamped (before (separator_of j d) (read_signed rest)) v left e in
+        record {
+          fields = so_far.fields ++ (field.part ∷ []);
+          line = line-next read_signed s d so_far.fields j rest so_far.line more field.part left field.parsed;
+          written =
+              ap (λ (n : ℕ). take n (set places j v)) (add-one j)
+              ∙ take-suc-set places j v fits
+              ∙ ap (λ (t : List ℤ). t ++ (v ∷ [])) so_far.written
+              ∙ ap (λ (y : ℤ). map clamped so_far.fields ++ (y ∷ [])) (sym field.value)
+              ∙ sym (map-append clamped so_far.fields (field.part ∷ []));
+        }
 
--- all fields are read
-pub row_end : (text : List ℕ) (at d base : ℕ) (old rows : List ℤ) (j place : ℕ) → RowSoFar text at d base old rows j place → d ≤ j → RunGot text (read_line read_signed d (drop at text)) base old rows place
-row_end text at d base old rows j place so_far l = record {
-  run = so_far.fields;
-  found = record { parsed = line_done read_signed text at d so_far.fields j place so_far.line l; inside = so_far.line.inside };
-  written = ap (λ (n : ℕ). take (base + n) rows) so_far.size ∙ so_far.written;
-}
+    -- a field is out of form, or another byte stands behind it
+    pub row_stop : mapped clamped (before (separator_of j d) (read_signed rest)) ≡ bad → read_line read_signed d s ≡ bad
+    row_stop e =
+        line_stop read_signed s d so_far.fields j rest so_far.line more (mapped_bad clamped (before (separator_of j d) (read_signed rest)) e)
 
--- ---- rows, one row a turn: i rows are read, and written from the first place on
-pub record RowsSoFar (text : List ℕ) (at d m : ℕ) (old rows : List ℤ) (i place : ℕ) : Type 0 where
+-- ---- rows, one row a turn
+-- row i lies within the places, and d places are lent to it
+pub rows_fit : (d m i : ℕ) → i < m → i * d + d ≤ m * d
+rows_fit d m i l =
+    let next : i + 1 ≤ m = omega arith in
+    omega (arith, mul-le-mul_right d next)
+
+pub lent_row : (d at : ℕ) (places : List ℤ) → at + d ≤ length places → length (take (at + d - at) (drop at places)) ≡ d
+lent_row d at places l = length-take-le (at + d - at) (drop at places) (omega (arith, length-drop at places)) ∙ omega arith
+
+-- i rows are read, and stand clamped in the first places
+pub record RowsSoFar (s : List ℕ) (d m : ℕ) (places : List ℤ) (i : ℕ) (rest : List ℕ) : Type 0 where
   pub run : List ℤ
-  pub room : length rows ≡ length old
-  pub inside : place ≤ length text
-  pub left : read_rows d m (drop at text) ≡ prepend run (read_rows d (m - i) (drop place text))
-  pub size : length run ≡ i * d
-  pub written : take (i * d) rows ≡ map clamped run
+  pub left : read_rows d m s ≡ prepend run (read_rows d (m - i) rest)
+  pub written : take (i * d) places ≡ map clamped run
 
-pub rows_start : (text : List ℕ) (at d m : ℕ) (old : List ℤ) → at ≤ length text → RowsSoFar text at d m old old 0 at
-rows_start text at d m old l = record {
-  run = [];
-  room = refl;
-  inside = l;
-  left = rw sub-zero (prepend_none (read_rows d m (drop at text)));
-  size = sym (zero-mul d);
-  written = ap (λ (n : ℕ). take n old) (zero-mul d);
-}
+module _ (s : List ℕ) (d m : ℕ) (places : List ℤ) (i : ℕ) (rest : List ℕ) (so_far : RowsSoFar s d m places i rest) where
+  module _ (more : i < m) where
+    -- how many rows are left behind the next one
+    abbrev behind_it : ℕ
+    behind_it = m - suc i
 
-rows_left_lem : (text : List ℕ) (at d m : ℕ) (old rows : List ℤ) (i place k : ℕ) (so_far : RowsSoFar text at d m old rows i place) → m ≡ i + suc k → read_rows d m (drop at text) ≡ prepend so_far.run (read_rows d (suc k) (drop place text))
-rows_left_lem text at d m old rows i place k so_far e =
-    let left : m - i ≡ suc k = omega arith in
-    so_far.left ∙ ap (λ (n : ℕ). prepend so_far.run (read_rows d n (drop place text))) left
+    next_left : read_rows d m s ≡ prepend so_far.run (read_rows d (suc behind_it) rest)
+    next_left =
+        let left : m - i ≡ suc behind_it = omega arith in
+        so_far.left ∙ ap (λ (n : ℕ). prepend so_far.run (read_rows d n rest)) left
 
--- a row out of form
-pub rows_stop : (text : List ℕ) (at d m : ℕ) (old rows : List ℤ) (i place : ℕ) → RowsSoFar text at d m old rows i place → i < m → read_line read_signed d (drop place text) ≡ bad → read_rows d m (drop at text) ≡ bad
-rows_stop text at d m old rows i place so_far l e =
-    let k = m - suc i in
-    rows_left_lem text at d m old rows i place k so_far (omega arith) ∙ ap (prepend so_far.run) (rows_bad d k (drop place text) e)
+    -- a row out of form
+    pub rows_stop : read_line read_signed d rest ≡ bad → read_rows d m s ≡ bad
+    rows_stop e = next_left ∙ ap (prepend so_far.run) (rows_bad d behind_it rest e)
 
--- a row is read and written
-pub rows_more : (text : List ℕ) (at d m : ℕ) (old rows new : List ℤ) (i place behind : ℕ) → RowsSoFar text at d m old rows i place → i < m → 1 ≤ d → length new ≡ length rows → RunGot text (read_line read_signed d (drop place text)) (i * d) rows new behind → RowsSoFar text at d m old new (i + 1) behind
-rows_more text at d m old rows new i place behind so_far l some kept row =
-    let k = m - suc i in
-    let long : length row.run ≡ d = members_got d (read_line read_signed d (drop place text)) row.run (drop behind text) (line-members read_signed d (drop place text)) row.found.parsed in
-    let left : k ≡ m - (i + 1) = omega arith in
-    let next : (i + 1) * d ≡ i * d + length row.run = omega (arith, long) in
-    record {
-      run = so_far.run ++ row.run;
-      room = kept ∙ so_far.room;
-      inside = row.found.inside;
-      left =
-          rows_left_lem text at d m old rows i place k so_far (omega arith)
-          ∙ ap (prepend so_far.run) (rows_got d k (drop place text) row.run (drop behind text) row.found.parsed)
-          ∙ prepend_twice so_far.run row.run (read_rows d k (drop behind text))
-          ∙ ap (λ (n : ℕ). prepend (so_far.run ++ row.run) (read_rows d n (drop behind text))) left;
-      size = length-append so_far.run row.run ∙ ap (λ (n : ℕ). n + length row.run) so_far.size ∙ sym next;
-      written =
-          ap (λ (n : ℕ). take n new) next
-          ∙ row.written
-          ∙ ap (λ (t : List ℤ). t ++ map clamped row.run) so_far.written
-          ∙ sym (map-append clamped so_far.run row.run);
-    }
+    -- a row is read and written
+    pub rows_more : (row : List ℤ) (k : ℕ) (left : List ℕ) → i * d ≤ length places → mapped (map clamped) (read_line read_signed d rest) ≡ got row left → RowsSoFar s d m (put_mid (i * d) k places row) (i + 1) left
+    rows_more row k left fits e =
+        let line = mapped_got (map clamped) (read_line read_signed d rest) row left e in
+        let long : length line.part ≡ d = members_got d (read_line read_signed d rest) line.part left (line-members read_signed d rest) line.parsed in
+        let size : length row ≡ d = ap length (sym line.value) ∙ length-map line.part clamped ∙ long in
+        let fewer : behind_it ≡ m - (i + 1) = omega arith in
+        record {
+          run = so_far.run ++ line.part;
+          left =
+              next_left
+              ∙ ap (prepend so_far.run) (rows_got d behind_it rest line.part left line.parsed)
+              ∙ prepend_twice so_far.run line.part (read_rows d behind_it left)
+              ∙ ap (λ (n : ℕ). prepend (so_far.run ++ line.part) (read_rows d n left)) fewer;
+          written =
+              take-put_mid (i * d) k places row ((i + 1) * d) (omega (arith, size)) fits
+              ∙ ap (λ (t : List ℤ). t ++ row) so_far.written
+              ∙ ap (λ (t : List ℤ). map clamped so_far.run ++ t) (sym line.value)
+              ∙ sym (map-append clamped so_far.run line.part);
+        }
 
--- all rows are read: m times d numbers
-pub rows_end : (text : List ℕ) (at d m : ℕ) (old rows : List ℤ) (i place : ℕ) → RowsSoFar text at d m old rows i place → m ≤ i → i ≤ m → RunGot text (read_rows d m (drop at text)) 0 old rows place
-rows_end text at d m old rows i place so_far l h =
-    let none : m - i ≡ 0 = omega arith in
-    record {
-      run = so_far.run;
-      found = record {
-        parsed = so_far.left ∙ ap (λ (n : ℕ). prepend so_far.run (read_rows d n (drop place text))) none ∙ prepend_end so_far.run (drop place text);
-        inside = so_far.inside;
-      };
-      written = ap (λ (n : ℕ). take n rows) (zero-add (length so_far.run) ∙ so_far.size) ∙ so_far.written;
-    }
+  -- all rows are read: m times d numbers
+  pub rows_end : m ≤ i → i ≤ m → length places ≤ m * d → mapped (map clamped) (read_rows d m s) ≡ got places rest
+  rows_end l h few =
+      let none : m - i ≡ 0 = omega arith in
+      let all : i ≡ m = omega arith in
+      ap (mapped (map clamped)) (so_far.left ∙ ap (λ (n : ℕ). prepend so_far.run (read_rows d n rest)) none ∙ prepend_end so_far.run rest)
+      ∙ ap (λ (xs : List ℤ). got xs rest) (sym so_far.written ∙ ap (λ (n : ℕ). take (n * d) places) all ∙ take_all (m * d) places few)

@@ -1,31 +1,21 @@
--- A field without a sign, by how many digits stand at its place (for read_number): none, too many, a superfluous zero, or a field
--- (number_at).
-use mathlib.Core.Path.{◌≡◌, refl, sym, ◌∙◌, ap}
+-- A field without a sign, by how many digits stand at the front (for Reader::number): none, too many, a superfluous zero, or a field
+-- (number_taken).
+use mathlib.Core.Path.{◌≡◌, refl, ◌∙◌, ap}
 use mathlib.Core.Bool.{Bool, true, false, cond, not, ◌&&◌, ◌||◌}
 use mathlib.Core.List.{List, [], ◌∷◌}
-use Prim.Native.Nat.{ℕ, ◌+◌, ◌≤◌, ◌<◌, min}
-use native.Mathlib.Nat.{add-zero}
+use Prim.Native.Nat.{ℕ, ◌≤◌, ◌<◌}
 use native.Mathlib.Omega.{arith}
 use borrow.Author.Tests.{leb-false, lt-leb, eq-eqb, ne_eqb}
 use lib.Dec.{eqb, leb}
 use lib.ListN.{length, get_or, take, drop}
-use lib.Seq.{drop-drop, get_or-drop}
 use Rattle.rank1.specs.Refusal.{within}
 use Rattle.request.specs.Text.{is_digit, digits, decimal, starts_with_zero, is_field}
 use Rattle.request.specs.Reading.{bad, got, read_number}
 use Rattle.request.proofs.CondLaws.{cond_false, and_false, not_within-below, not_within-above, cond_true, and_true, within_is}
 use Rattle.request.proofs.reading.DigitLaws.{digits_front}
 
--- counted up to 7
-pub count_all : (c n : ℕ) → c ≡ min 7 n → c ≤ 6 → n ≡ c
-count_all c n e l = omega arith
-
 no_field : (s : List ℕ) → is_field (digits s) ≡ false → read_number s ≡ bad
 no_field s e = cond_false (is_field (digits s)) (got (decimal (digits s)) (drop (length (digits s)) s)) bad e
-
--- the byte at a place is the first one from there on
-pub at_start : (text : List ℕ) (at : ℕ) → get_or (drop at text) 0 0 ≡ get_or text at 0
-at_start text at = get_or-drop at text 0 0 ∙ ap (λ (k : ℕ). get_or text k 0) (add-zero at)
 
 -- none
 pub number_none : (s : List ℕ) → length (digits s) < 1 → read_number s ≡ bad
@@ -63,10 +53,6 @@ number_is s l h f =
     unpadded true e = refl
     unpadded false e = ap not (starts s (omega arith) ∙ ne_eqb (get_or s 0 0) 48 (f (leb-false (length (digits s)) 1 e)))
 
--- by its place in the text and the count
-pub number_at : (text : List ℕ) (at count value : ℕ) → count ≡ min 7 (length (digits (drop at text))) → 1 ≤ count → count ≤ 6 → (1 < count → get_or text at 0 ≡ 48 → ⊥) → value ≡ decimal (take count (drop at text)) → read_number (drop at text) ≡ got value (drop (at + count) text)
-number_at text at count value e l h f v =
-    let all : length (digits (drop at text)) ≡ count = count_all count (length (digits (drop at text))) e h in
-    number_is (drop at text) (omega arith) (omega arith) (λ more zero. f (omega arith) (sym (at_start text at) ∙ zero))
-    ∙ ap (λ (x : ℕ). got x (drop (length (digits (drop at text))) (drop at text))) (ap decimal (digits_front (drop at text) ∙ ap (λ (k : ℕ). take k (drop at text)) all) ∙ sym v)
-    ∙ ap (got value) (ap (λ (k : ℕ). drop k (drop at text)) all ∙ drop-drop count at text)
+-- by the digits that are taken
+pub number_taken : (s : List ℕ) → 1 ≤ length (digits s) → length (digits s) ≤ 6 → (1 < length (digits s) → get_or s 0 0 ≡ 48 → ⊥) → read_number s ≡ got (decimal (take (length (digits s)) s)) (drop (length (digits s)) s)
+number_taken s l h f = number_is s l h f ∙ ap (λ (t : List ℕ). got (decimal t) (drop (length (digits s)) s)) (digits_front s)

@@ -10,9 +10,5 @@ use Rattle.lists.proofs.corners.next.Given as goal
 
 abbrev pub invariant-loop-j : goal.invariant-loop-j
 invariant-loop-j l =
-    (l.j ≤ length l.initial.row)
-    × (l.row ≡ cleared l.j l.initial.row)
+    (l.row ≡ cleared l.j l.initial.row)
     × ((i : ℕ) → l.j ≤ i → i < length l.initial.row → T (under_some (index_list (length l.initial.row) l.corners) (raised i l.initial.row)) → ⊥)
-
-abbrev pub decreases-loop-j : goal.decreases-loop-j
-decreases-loop-j l = l.j

@@ -1,54 +1,57 @@
--- `counting::count` meets its contract. The invariant: the record is that of the first i rows, and the next one starts at i × d.
-use mathlib.Core.Path.{refl, subst, ◌≡◌, sym}
-use native.Mathlib.Nat.{zero-mul, suc-mul}
-use Prim.Native.Nat.{ℕ, ◌≤◌, ◌-◌, ◌+◌, zero-le}
-use Rattle.rank1.proofs.IndexLaws.{row_fits}
-use Rattle.lists.proofs.RecountLaws.{counted-turn, counted_addable}
+-- `counting::count` meets its contract: the next chunk is the next row (counted-turn), and in the end all rows are counted.
+use mathlib.Core.Path.{◌≡◌, sym, ap, subst}
+use mathlib.Core.List.{◌++◌}
+use Prim.Native.Nat.{ℕ, ◌≤◌, ◌+◌, ◌*◌}
+use native.Mathlib.Nat.{le-div_iff_mul-le}
 use native.Mathlib.Omega.{arith}
-use Rattle.refusal.proofs.InputLaws.{part_long}
-use lib.ListN.{length, take, drop}
-use Rattle.rank1.specs.Index.{rows_of}
-use Rattle.lists.specs.Inner.{summed}
 use borrow.Author.Rules.{rules}
+use lib.ListN.{length, take, drop}
+use Rattle.std.specs.Slice.Iter.{chunks_exact_rest}
+use Rattle.rank1.specs.declared.Tally.{Tally}
+use Rattle.rank1.specs.Index.{rows_of, row_count}
+use Rattle.rank1.specs.Named.{plan_number}
+use Rattle.rank1.proofs.IndexLaws.{chunk_row, chunk_rest, chunk_within, chunks_end}
+use Rattle.lists.specs.Inner.{summed}
+use Rattle.lists.proofs.RecountLaws.{counted-turn, counted_addable}
 use Rattle.lists.proofs.counting.count.Goals as goal
-use Rattle.lists.proofs.counting.count.Goals.{In-loop-i}
+use Rattle.lists.proofs.counting.count.Goals.{In-Some}
 
-pub loop-i-init : goal.loop-i-init
-loop-i-init c = (zero-le, sym (zero-mul c.args.d), refl)
+-- ---- the next row, of d numbers, and the rest
+left : (c : In-Some) → drop (c.loop-row.tally.m * c.args.d) c.args.rows.now ≡ c.in-Some.row.now ++ chunks_exact_rest c.next.new.self
+left c = search rules
 
--- the next row lies within the run
-room : (c : In-loop-i) → c.loop-i.at + c.args.d ≤ length c.args.rows.now
-room c =
-    let l = c.loop-i in
-    omega (arith, l.invariant.1, row_fits c.args.d c.args.m l._i (length c.args.rows.now) (omega arith) c.requires.fits)
+long : (c : In-Some) → length c.in-Some.row.now ≡ c.args.d
+long c = search rules
 
-pub overflow_add-at : goal.overflow_add-at
-overflow_add-at c = omega (arith, room c)
-
-pub offset_bounds-rows-at : goal.offset_bounds-rows-at
-offset_bounds-rows-at c = search (rules, room c)
+next : (c : In-Some) → c.in-Some.row.now ≡ take c.args.d (drop (c.loop-row.tally.m * c.args.d) c.args.rows.now)
+next c =
+    chunk_row c.args.d c.loop-row.tally.m c.args.rows.now c.in-Some.row.now (chunks_exact_rest c.next.new.self) (left c) (long c) c.loop-row.invariant.within
 
 pub plus-tally-requires : goal.plus-tally-requires
 plus-tally-requires c =
-    let l = c.loop-i in
-    counted_addable c.args.plan c.args.d c.args.rows.now l._i l.tally (take (l.at + c.args.d - l.at) (drop l.at c.args.rows.now))
-    (omega (arith, c.requires.few_rows)) c.requires.few_axes (omega (arith, room (goal.at.plus-tally-requires c).In-loop-i, l.invariant.1)) (part_long c.args.rows.now c.args.d l.at (room (goal.at.plus-tally-requires c).In-loop-i)) l.invariant.2
+    let l = c.loop-row in
+    let s = (goal.at.plus-tally-requires c).In-Some in
+    let few : l.tally.m ≤ row_count c.args.d c.args.rows.now = (le-div_iff_mul-le c.requires.some_axes).1 l.invariant.within in
+    counted_addable (plan_number c.args.plan) c.args.d c.args.rows.now l.tally.m l.tally c.in-Some.row.now
+    (omega (arith, few, c.requires.few_rows)) c.requires.few_axes l.invariant.within (long s) l.invariant.so_far
 
-pub overflow_add-at-in-loop-i : goal.overflow_add-at-in-loop-i
-overflow_add-at-in-loop-i c = omega (arith, room (goal.at.overflow_add-at-in-loop-i c).In-loop-i)
-
-pub loop-i-preserved : goal.loop-i-preserved
-loop-i-preserved c =
-    let s = c.args in
-    let l = c.loop-i in (
-      omega arith,
-      omega (arith, l.invariant.1, suc-mul l._i s.d),
-      counted-turn s.plan s.d s.rows.now l._i l.at l.invariant.1 (room (goal.at.loop-i-preserved c).In-loop-i) l.tally c.plus-tally.result l.invariant.2 c.plus-tally.ensures,
-    )
+pub loop-row-preserved : goal.loop-row-preserved
+loop-row-preserved c =
+    let l = c.loop-row in
+    let s = (goal.at.loop-row-preserved c).In-Some in
+    let rest = chunks_exact_rest c.next.new.self in
+    let turn : c.plus-tally.result.m ≡ l.tally.m + 1 = ap (λ (t : Tally). t.m) c.plus-tally.ensures in
+    record {
+      can_next = search rules;
+      is_finite = search rules;
+      size = search rules;
+      within = subst (λ (n : ℕ). n * c.args.d ≤ length c.args.rows.now) (sym turn) (chunk_within c.args.d l.tally.m c.args.rows.now c.in-Some.row.now rest (left s) (long s) l.invariant.within);
+      left = subst (λ (n : ℕ). rest ≡ drop (n * c.args.d) c.args.rows.now) (sym turn) (chunk_rest c.args.d l.tally.m c.args.rows.now c.in-Some.row.now rest (left s) (long s) l.invariant.within);
+      so_far = subst (λ (n : ℕ). c.plus-tally.result ≡ summed (plan_number c.args.plan) c.args.d (rows_of c.args.d n c.args.rows.now)) (sym turn) (counted-turn (plan_number c.args.plan) c.args.d c.args.rows.now l.tally.m l.tally c.plus-tally.result c.in-Some.row.now (next s) (long s) l.invariant.so_far c.plus-tally.ensures);
+    }
 
 pub returns : goal.returns
 returns c =
-    let s = c.args in
-    let l = c.loop-i in
-    let end : l._i ≡ s.m = omega arith in
-    subst (λ (k : ℕ). l.tally ≡ summed s.plan s.d (rows_of s.d k s.rows.now)) end l.invariant.2
+    let l = c.loop-row in
+    let end = chunks_end c.args.d l.tally.m c.args.rows.now l.invariant.within (search rules) in
+    subst (λ (n : ℕ). l.tally ≡ summed (plan_number c.args.plan) c.args.d (rows_of c.args.d n c.args.rows.now)) end l.invariant.so_far

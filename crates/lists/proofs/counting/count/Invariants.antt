@@ -1,13 +1,20 @@
--- `counting::count` meets its contract. The invariant: the record is that of the first i rows, and the next one starts at i × d.
+-- `counting::count` meets its contract. The invariant: the record is that of the first rows, as many as it has, and the rows that are left
+-- are those behind them.
 use mathlib.Core.Path.{◌≡◌}
-use Prim.Native.Nat.{◌≤◌, ◌-◌, ◌*◌}
+use Prim.Native.Nat.{◌≤◌, ◌*◌}
+use lib.ListN.{length, drop}
+use Rattle.std.specs.Slice.Iter.{chunks_exact_rest, chunks_exact_size}
 use Rattle.rank1.specs.Index.{rows_of}
+use Rattle.rank1.specs.Named.{plan_number}
 use Rattle.lists.specs.Inner.{summed}
 use Rattle.lists.proofs.counting.count.Given as goal
 
-abbrev pub invariant-loop-i : goal.invariant-loop-i
-invariant-loop-i l =
-    (l._i ≤ l.m) × (l.at ≡ l._i * l.d) × (l.tally ≡ summed l.plan l.d (rows_of l.d l._i l.rows))
-
-abbrev pub decreases-loop-i : goal.decreases-loop-i
-decreases-loop-i l = l.m - l._i
+abbrev pub invariant-loop-row : goal.invariant-loop-row
+invariant-loop-row l = record {
+  can_next : (goal.iterator-loop-row).can_next l.row-iterator;
+  is_finite : (goal.iterator-loop-row).is_finite l.row-iterator;
+  size : chunks_exact_size l.row-iterator ≡ l.d;
+  within : l.tally.m * l.d ≤ length l.rows;
+  left : chunks_exact_rest l.row-iterator ≡ drop (l.tally.m * l.d) l.rows;
+  so_far : l.tally ≡ summed (plan_number l.plan) l.d (rows_of l.d l.tally.m l.rows);
+}

@@ -1,80 +1,64 @@
--- `lower::list_steps` meets its contract: the rows before i pass.
-use mathlib.Core.Path.{sym, ◌∙◌, ap, subst}
-use mathlib.Core.Bool.{true}
-use mathlib.Core.List.{List, []}
-use Prim.Native.Nat.{ℕ, ◌≤◌, ◌+◌, ◌*◌}
-use native.Mathlib.Nat.{zero-mul, suc-mul, div-mul-le_self, div-le_self}
-use native.Mathlib.Numerals.{add-one}
+-- `lower::list_steps` meets its contract: the next row and those behind it are the rows that are left.
+use mathlib.Core.Path.{◌≡◌, sym, subst}
+use mathlib.Core.Bool.{true≢false}
+use mathlib.Core.List.{List, ◌∷◌}
+use Prim.Native.Nat.{ℕ}
 use native.Mathlib.Omega.{arith}
-use borrow.Author.Count.{below_more}
-use borrow.Author.Tests.{not-true, not-false}
+use borrow.Author.Rules.{rules}
 use lib.IntN.{ℤ}
-use lib.ListN.{length, get_or, take, drop}
+use lib.ListN.{length}
+use Rattle.std.specs.Slice.Iter.{chunks_exact_rest}
 use Rattle.rank1.specs.Tests.{Decides}
-use Rattle.rank1.specs.Index.{row_count, index_list}
-use Rattle.rank1.proofs.TestLaws.{false_fails}
-use Rattle.rank1.proofs.IndexLaws.{row_fits, row_at_lem, rows-length}
+use Rattle.rank1.specs.Index.{index_list}
+use Rattle.rank1.proofs.IndexLaws.{index_front, index_short}
 use Rattle.lists.specs.Inner.{RowSteps}
+use Rattle.lists.proofs.lower.StepLaws.{AllStep, step_first, step_rest, step_both}
 use Rattle.lists.proofs.lower.list_steps.Goals as goal
-use Rattle.lists.proofs.lower.list_steps.Goals.{After-row_steps, In-loop-i}
+use Rattle.lists.proofs.lower.list_steps.Goals.{After-row_steps, In-Some}
 
-pub nonzero_div-i-end : goal.nonzero_div-i-end
-nonzero_div-i-end c = c.requires.0
+abbrev list : In-Some → List (List ℤ)
+list c = index_list c.args.d c.args.rows.now
 
-pub loop-i-init : goal.loop-i-init
-loop-i-init c = (omega arith, sym (zero-mul c.args.d), λ r h. absurd (omega arith))
+abbrev behind : In-Some → List (List ℤ)
+behind c = index_list c.args.d (chunks_exact_rest c.next.new.self)
 
--- the next row lies within the run
-room : (c : In-loop-i) → c.loop-i._i * c.args.d + c.args.d ≤ length c.args.rows.now
-room c =
-    let s = c.args in
-    row_fits s.d (row_count s.d s.rows.now) c.loop-i._i (length s.rows.now) c.loop-i-test.true (div-mul-le_self (length s.rows.now) s.d)
+-- the rows that are left, and whether those do of which the next one is the first
+next : (c : In-Some) → index_list c.args.d (chunks_exact_rest c.loop-row.row-iterator) ≡ c.in-Some.row.now ∷ behind c
+next c =
+    let e = index_front c.args.d c.in-Some.row.now (chunks_exact_rest c.next.new.self) c.requires.0 (search rules) in
+    search (rules, e)
 
-pub row_steps-requires : goal.row_steps-requires
-row_steps-requires c = record {
-  some_axes = c.requires.0;
-  few_axes = c.requires.1;
-  fits = omega (arith, room c, c.loop-i.invariant.1);
-}
-
--- what the call says of row i
-told : (c : After-row_steps) → Decides c.row_steps.result (RowSteps (index_list c.args.d c.args.rows.now) (get_or (index_list c.args.d c.args.rows.now) c.loop-i._i []))
+-- what the call says of the next one
+told : (c : After-row_steps) → Decides c.row_steps.result (RowSteps (index_list c.args.d c.args.rows.now) c.in-Some.row.now)
 told c =
-    let s = c.args in
-    let l = c.loop-i in
-    let ks = index_list s.d s.rows.now in
-    subst (λ (k : List ℤ). Decides c.row_steps.result (RowSteps ks k))
-    (ap (λ (a : ℕ). take s.d (drop a s.rows.now)) l.invariant.1 ∙ sym (row_at_lem s.d (row_count s.d s.rows.now) s.rows.now l._i c.loop-i-test.true))
-    c.row_steps.ensures
+    let long : length c.in-Some.row.now ≡ c.args.d = search rules in
+    subst (λ (n : ℕ). Decides c.row_steps.result (RowSteps (index_list n c.args.rows.now) c.in-Some.row.now)) long c.row_steps.ensures
 
 pub returns-then-not-row_steps : goal.returns-then-not-row_steps
 returns-then-not-row_steps c =
-    let l = c.loop-i in
+    let s = (goal.at.returns-then-not-row_steps c).In-Some in
     record {
-      yes = λ e. absurd (false_fails true (sym e) tt);
-      no = λ e h. (told (goal.at.returns-then-not-row_steps c).After-row_steps).no (not-true c.row_steps.result c.if-not-row_steps.true-raw) (h l._i (omega (arith, c.loop-i-test.true, rows-length c.args.d (row_count c.args.d c.args.rows.now) c.args.rows.now)));
+      yes = λ e. absurd (true≢false (sym e));
+      no = λ e all. (told (goal.at.returns-then-not-row_steps c).After-row_steps).no c.if-not-row_steps.true
+          (step_first (list s) c.in-Some.row.now (behind s) (subst (AllStep (list s)) (next s) (c.loop-row.invariant.part all)));
     }
 
-pub overflow_add-at : goal.overflow_add-at
-overflow_add-at c = omega (arith, room (goal.at.overflow_add-at c).In-loop-i, c.loop-i.invariant.1)
-
-pub overflow_step-i : goal.overflow_step-i
-overflow_step-i c =
-    let s = c.args in
-    omega (arith, c.loop-i-test.true, div-le_self (length s.rows.now) s.d)
-
-pub loop-i-preserved : goal.loop-i-preserved
-loop-i-preserved c =
-    let l = c.loop-i in (
-      omega arith,
-      rw (add-one l._i) (ap (λ (k : ℕ). k + c.args.d) l.invariant.1 ∙ sym (suc-mul l._i c.args.d)),
-      below_more _ _ l.invariant.2 ((told (goal.at.loop-i-preserved c).After-row_steps).yes (not-false c.row_steps.result c.if-not-row_steps.false-raw)),
-    )
+pub loop-row-preserved : goal.loop-row-preserved
+loop-row-preserved c =
+    let s = (goal.at.loop-row-preserved c).In-Some in
+    let first = (told (goal.at.loop-row-preserved c).After-row_steps).yes c.if-not-row_steps.false in
+    record {
+      can_next = search rules;
+      is_finite = search rules;
+      size = search rules;
+      whole = λ rest. c.loop-row.invariant.whole (subst (AllStep (list s)) (sym (next s)) (step_both (list s) c.in-Some.row.now (behind s) first rest));
+      part = λ all. step_rest (list s) c.in-Some.row.now (behind s) (subst (AllStep (list s)) (next s) (c.loop-row.invariant.part all));
+    }
 
 pub returns : goal.returns
 returns c =
-    let s = c.args in
+    let none = index_short c.args.d (chunks_exact_rest c.loop-row.row-iterator) (search rules) in
     record {
-      yes = λ e r h. c.loop-i.invariant.2 r (omega (arith, c.loop-i-test.false, rows-length s.d (row_count s.d s.rows.now) s.rows.now));
-      no = λ e h. false_fails true e tt;
+      yes = λ e. c.loop-row.invariant.whole (subst (AllStep (index_list c.args.d c.args.rows.now)) (sym none) (λ i l. absurd (omega arith)));
+      no = λ e. absurd (true≢false e);
     }

@@ -1,15 +1,15 @@
--- `lower::list_steps` meets its contract: the rows before i pass.
+-- `lower::list_steps` meets its contract. The invariant: all rows allow it just where all rows that are left do.
 use mathlib.Core.Path.{◌≡◌}
-use mathlib.Core.List.{[]}
-use Prim.Native.Nat.{ℕ, ◌≤◌, ◌<◌, ◌-◌, ◌*◌}
-use lib.ListN.{get_or}
-use Rattle.rank1.specs.Index.{row_count, index_list}
-use Rattle.lists.specs.Inner.{RowSteps}
+use Rattle.std.specs.Slice.Iter.{chunks_exact_rest, chunks_exact_size}
+use Rattle.rank1.specs.Index.{index_list}
+use Rattle.lists.proofs.lower.StepLaws.{AllStep}
 use Rattle.lists.proofs.lower.list_steps.Given as goal
 
-abbrev pub invariant-loop-i : goal.invariant-loop-i
-invariant-loop-i l =
-    (l._i ≤ row_count l.d l.rows) × (l.at ≡ l._i * l.d) × ((r : ℕ) → r < l._i → RowSteps (index_list l.d l.rows) (get_or (index_list l.d l.rows) r []))
-
-abbrev pub decreases-loop-i : goal.decreases-loop-i
-decreases-loop-i l = row_count l.d l.rows - l._i
+abbrev pub invariant-loop-row : goal.invariant-loop-row
+invariant-loop-row l = record {
+  can_next : (goal.iterator-loop-row).can_next l.row-iterator;
+  is_finite : (goal.iterator-loop-row).is_finite l.row-iterator;
+  size : chunks_exact_size l.row-iterator ≡ l.d;
+  whole : AllStep (index_list l.d l.rows) (index_list l.d (chunks_exact_rest l.row-iterator)) → AllStep (index_list l.d l.rows) (index_list l.d l.rows);
+  part : AllStep (index_list l.d l.rows) (index_list l.d l.rows) → AllStep (index_list l.d l.rows) (index_list l.d (chunks_exact_rest l.row-iterator));
+}

@@ -1,14 +1,11 @@
--- `planner::axes::axes_interchange` meets its contract. The invariant: each row before t, exchanged, is listed. Measure: the rows
--- left.
+-- `planner::axes::axes_interchange` meets its contract. The invariant: each row before t, exchanged, is listed; so all are
+-- (rows-interchange).
 use mathlib.Core.List.{Memᴰ}
-use Prim.Native.Nat.{ℕ, ◌*◌, ◌≤◌, ◌<◌, ◌-◌}
-use lib.ListN.{take, drop}
-use Rattle.rank1.specs.Index.{row_count, index_list}
+use Prim.Native.Nat.{ℕ, ◌<◌}
 use Rattle.rank1.specs.Axes.{swap}
+use Rattle.planner.specs.Inner.{row_at}
+use Rattle.planner.specs.Lists.{rows_in}
 use Rattle.planner.proofs.axes.axes_interchange.Given as goal
 
 abbrev pub invariant-loop-t : goal.invariant-loop-t
-invariant-loop-t l = (l.t ≤ row_count l.d l.rows) × ((k : ℕ) → k < l.t → Memᴰ (swap l.i l.j (take l.d (drop (k * l.d) l.rows))) (index_list l.d l.rows))
-
-abbrev pub decreases-loop-t : goal.decreases-loop-t
-decreases-loop-t l = row_count l.d l.rows - l.t
+invariant-loop-t l = (k : ℕ) → k < l.t → Memᴰ (swap l.i l.j (row_at l.rows.d l.rows.numbers.now k)) (rows_in l.rows)

@@ -1,32 +1,21 @@
--- `planner::levels::ends_by` meets its contract. The invariant: the row is 0 from i on just where it is 0 from j on. Measure: the
--- components left.
-use mathlib.Core.Path.{refl, sym, ◌∙◌, ap}
-use native.Mathlib.Numerals.{add-one}
+-- `levels::ends_by`: the row is 0 from axis j on where no component from there on is another number.
+use Rattle.std.proofs.Common.{rules, ◌≡◌, ◌<◌, ◌+◌, ℕ, length, get_or}
+use Rattle.std.proofs.iter.runs.Made.{chains}
 use native.Mathlib.Omega.{arith}
-use mir.Syntax.{w16}
-use mir.Val.{to_z, of_z}
-use mir.Facts.{to_z-of_z}
-use borrow.Author.Rules.{sfits_of}
-use Rattle.planner.proofs.levels.LevelLaws.{zero_more, zero_found, zero_none}
+use lib.IntN.{pos}
+use Rattle.rank1.proofs.TestLaws.{fails_false, holds_true}
+use Rattle.planner.specs.Levels.{zero_from}
+use Rattle.planner.proofs.levels.LevelLaws.{zero_from_lem, from_zero_lem, from_places}
+use Rattle.refusal.proofs.InputLaws.{same_test}
 use Rattle.planner.proofs.levels.ends_by.Goals as goal
 
-pub loop-i-init : goal.loop-i-init
-loop-i-init c = (omega arith, c.requires, refl)
-
-pub returns-then-row-i-ne0 : goal.returns-then-row-i-ne0
-returns-then-row-i-ne0 c =
-    let row = c.args.row.now in
-    let l = c.loop-i in
-    sym (zero_found row l.i (λ e. c.if-row-i-ne0.true (ap (of_z w16) e))) ∙ l.invariant.2
-
-pub loop-i-preserved : goal.loop-i-preserved
-loop-i-preserved c =
-    let row = c.args.row.now in
-    let l = c.loop-i in (
-      omega arith,
-      omega arith,
-      rw add-one (zero_more row l.i (omega arith) (sym (to_z-of_z (sfits_of {w = w16} c.t8-1.given)) ∙ ap (to_z w16) c.if-row-i-ne0.false) ∙ l.invariant.2),
-    )
-
 pub returns : goal.returns
-returns c = sym (zero_none c.args.row.now c.loop-i.i (omega arith)) ∙ c.loop-i.invariant.2
+returns c =
+    let j = c.args.j in
+    let row = c.args.row.now in
+    same_test c.all.result (zero_from j row)
+    (λ yes.
+    let zeros : (k : ℕ) → j + k < length row → get_or row (j + k) (pos 0) ≡ pos 0 = λ k l. search (rules, chains) in
+    from_zero_lem j row (from_places j row zeros))
+    (λ no. fails_false (zero_from j row)
+    (λ t. let zeros : (i : ℕ) → get_or row (j + i) (pos 0) ≡ pos 0 = λ i. zero_from_lem j row (holds_true (zero_from j row) t) (j + i) (omega arith) in search (rules, chains)))

@@ -1,32 +1,20 @@
--- `refusals::gather_refusal` meets its contract: refused as spreading is, and then by 11 (`gather_as_spread`).
-use mathlib.Core.Path.{sym, ◌∙◌}
-use mathlib.Core.List.{[], ◌∷◌}
+-- `refusals::gather_refusal`: where spreading is not refused, the arguments and the sums are what condition 11 asks for (spread_clear).
+use mathlib.Core.Path.{sym}
 use lib.ListN.{length}
-use Rattle.rank1.specs.Index.{index_list}
-use Rattle.rank1.specs.Refusal.{ungatherable, spread_refusal}
-use Rattle.refusal.proofs.InputLaws.{stops, passes, ends}
-use Rattle.planner.proofs.refusals.HandedLaws.{spread_clear, gather_as_spread}
+use Rattle.planner.proofs.CallLaws.{given_valid}
+use Rattle.planner.proofs.refusals.HandedLaws.{SpreadHanded, spread_clear}
 use Rattle.planner.proofs.refusals.gather_refusal.Goals as goal
+use Rattle.planner.proofs.refusals.gather_refusal.Goals.{In_ok-rows}
 
-pub returns-then-refused-ne0 : goal.returns-then-refused-ne0
-returns-then-refused-ne0 c =
-    let s = c.args in
-    let t = c.spread_refusal-refused in
-    stops t.result (spread_refusal s.plan s.d s.rows.now s.n s.z.now s.terms (length s.sums.now)) t.ensures (ungatherable s.plan (index_list s.d s.rows.now) s.n s.z.now s.sums.now ∷ []) c.if-refused-ne0.true
-    ∙ sym (gather_as_spread s.plan s.d s.rows.now s.n s.z.now s.sums.now s.terms)
+handed : (c : In_ok-rows) → let a = c.args in SpreadHanded a.plan a.d a.rows.now a.n a.z.now a.terms (length a.sums.now)
+handed c =
+    let a = c.args in
+    spread_clear a.plan a.d a.rows.now a.n a.z.now a.terms (length a.sums.now) (sym c.in_ok-rows.ensures.number)
 
-pub sums_refusal-requires : goal.sums_refusal-requires
-sums_refusal-requires c =
-    let s = c.args in
-    let h = spread_clear s.plan s.d s.rows.now s.n s.z.now s.terms (length s.sums.now) (sym c.spread_refusal-refused.ensures ∙ c.if-refused-ne0.false) in
-    record { valid_call = h.valid; sums_len = h.sum_room }
+pub sums_refusal-requires-clause-valid_call : goal.sums_refusal-requires-clause-valid_call
+sums_refusal-requires-clause-valid_call c =
+    given_valid c.in_ok-rows.ensures.given (handed (goal.at.sums_refusal-requires-clause-valid_call c).In_ok-rows).valid
 
-pub returns : goal.returns
-returns c =
-    let s = c.args in
-    let t = c.spread_refusal-refused in
-    let u = c.sums_refusal in
-    let last = ungatherable s.plan (index_list s.d s.rows.now) s.n s.z.now s.sums.now in
-    passes t.result (spread_refusal s.plan s.d s.rows.now s.n s.z.now s.terms (length s.sums.now)) t.ensures u.result (last ∷ []) c.if-refused-ne0.false
-    (ends u.result last u.ensures)
-    ∙ sym (gather_as_spread s.plan s.d s.rows.now s.n s.z.now s.sums.now s.terms)
+pub sums_refusal-requires-clause-sums_len : goal.sums_refusal-requires-clause-sums_len
+sums_refusal-requires-clause-sums_len c =
+    (handed (goal.at.sums_refusal-requires-clause-sums_len c).In_ok-rows).sum_room

@@ -1,11 +1,7 @@
 -- `planner::set_sums`: the sums before e are set (`sums_more`); those that are read stand before them and are as they were.
-use Prim.Native.Nat.{◌-◌, ◌≤◌}
 use Rattle.planner.specs.Sieve.{SumsSet}
 use Rattle.planner.proofs.sieve.set_sums.Given as goal
 
 abbrev pub invariant-loop-e : goal.invariant-loop-e
 invariant-loop-e l =
-    (l.from ≤ l.e) × SumsSet l.n l.at l.components l.products l.initial.sums l.from l.e l.sums
-
-abbrev pub decreases-loop-e : goal.decreases-loop-e
-decreases-loop-e l = l.to - l.e
+    SumsSet l.n l.at l.components l.products l.initial.sums l.from l.e l.sums

@@ -7,7 +7,7 @@ use Rattle.planner.proofs.sieve.strike_runs.Given as goal
 
 abbrev pub invariant-loop-at : goal.invariant-loop-at
 invariant-loop-at l =
-    (l.end ≤ l.before * room + room) × Barred l.n l.before l.components l.bounds l.products l.sums l.initial.struck l.struck
+    (l.end ≤ l.prefix.before * room + room) × Barred l.prefix.n l.prefix.before l.list l.prefix.products.now l.prefix.sums.now l.initial.struck l.struck
 
 abbrev pub decreases-loop-at : goal.decreases-loop-at
 decreases-loop-at l = l.end - l.at

@@ -1,86 +1,52 @@
 -- `sums::all_gather` meets its contract. The invariant: the first i rows pass. The first that does not ends the loop.
-use mathlib.Core.Path.{◌≡◌, sym, ◌∙◌}
-use mathlib.Core.Bool.{Bool, true}
-use mathlib.Core.List.{List, [], map}
-use Prim.Native.Nat.{zero-le, ◌<◌}
-use native.Mathlib.Omega.{arith}
-use borrow.Author.Count.{below_more}
-use borrow.Author.Tests.{not-true, not-false}
-use lib.IntN.{ℤ, pos}
-use lib.ListN.{length, get_or}
-use Rattle.rank1.specs.Index.{row_count, index_list}
+use Rattle.std.proofs.Common.{◌≡◌, ◌∙◌, ap, sym, not, true, [], map, ◌<◌, ◌^◌, arith, below_more, pos, get_or}
+use lib.Signed.{mag}
+use Rattle.rank1.specs.Index.{row_count}
+use Rattle.rank1.specs.Named.{plan_number}
 use Rattle.rank1.specs.Sums.{gathers}
 use Rattle.rank1.proofs.Distinct.{member_at}
 use Rattle.rank1.proofs.IndexLaws.{rows-length}
 use Rattle.rank1.proofs.CountLaws.{at_places}
 use Rattle.rank1.proofs.TestLaws.{true_every, false_every}
-use Rattle.planner.proofs.sums.SumSteps.{gather_test}
+use Rattle.planner.specs.Lists.{rows_in}
+use Rattle.planner.proofs.sums.SumSteps.{gathers_is}
 use Rattle.planner.proofs.sums.all_gather.Goals as goal
-use Rattle.planner.proofs.sums.all_gather.Goals.{After-divides_evenly, After-wide-r, At-loop-i}
-use Rattle.planner.proofs.sums.all_gather.Lts.View as view
-use Rattle.planner.proofs.sums.all_gather.Reads as reads
-use Rattle.planner.proofs.sums.all_gather.Tie as tie
+use Rattle.planner.proofs.sums.all_gather.Goals.{After-is_none}
 
-abbrev here : At-loop-i → List ℤ
-here c = get_or (index_list c.args.d c.args.rows.now) c.loop-i.i []
-
-abbrev passes : At-loop-i → Bool
-passes c = gathers c.args.plan c.args.n (map pos c.args.z.now) c.args.sums.now (here c)
-
--- its sum is a place
-inside : (c : After-wide-r) → c.wide-r.result < length c.args.sums.now
-inside c = omega (arith, c.wide-r.ensures, c.entry_at-e.ensures.inside, c.requires.sums_len)
-
--- the test is of row i
-tested : (c : After-divides_evenly) → c.divides_evenly.result ≡ passes (view.up-At-loop-i tie.the-claims reads.Pre reads.Post goal.the-invariant-loop-i goal.the-decreases-loop-i tie.handed_clauses (c.before.before.before.before.before.before))
+-- the call says whether row i passes
+tested : (c : After-is_none) → gathers (plan_number c.args.rows.now.plan) c.args.lattice.now.n (map pos c.args.lattice.now.z.now) c.args.sums.now (get_or (rows_in c.args.rows.now) c.loop-i.i []) ≡ not c.is_none.result
 tested c =
-    let a = c.args in
-    c.divides_evenly.ensures
-    ∙ gather_test a.plan a.n a.z.now (here (view.up-At-loop-i tie.the-claims reads.Pre reads.Post goal.the-invariant-loop-i goal.the-decreases-loop-i tie.handed_clauses (c.before.before.before.before.before.before))) c.entry_at-e.result.residue c.entry_at-e.result.copies c.entry_at-e.ensures a.sums.now c.wide-r.result c.wide-r.ensures c.divides_evenly-arg-1.given
+    let rows = c.args.rows.now in
+    let lattice = c.args.lattice.now in
+    let e = c.entry_at-e in
+    let fits : mag (get_or c.args.sums.now c.from.result (pos 0)) < 2 ^ 63 = omega arith in
+    gathers_is (plan_number rows.plan) lattice.n lattice.z.now (get_or (rows_in rows) c.loop-i.i []) e.result.residue e.result.copies e.ensures c.args.sums.now c.from.result c.from.ensures fits c.quotient_of.result c.quotient_of.ensures
+    ∙ c.is_none.ensures
 
-pub nonzero_div-i-end : goal.nonzero_div-i-end
-nonzero_div-i-end c = c.requires.ready.some_axes
-
-pub loop-i-init : goal.loop-i-init
-loop-i-init c = (zero-le, λ j l. absurd (omega arith))
-
-pub entry_at-e-requires : goal.entry_at-e-requires
-entry_at-e-requires c =
-    record { ready = c.requires.ready; i_bound = c.loop-i-test.true }
-
-pub offset_bounds-sums-r : goal.offset_bounds-sums-r
-offset_bounds-sums-r c = omega (arith, inside c)
-
-pub bounds-sums-r : goal.bounds-sums-r
-bounds-sums-r c = inside c
-
-pub divides_evenly-requires : goal.divides_evenly-requires
-divides_evenly-requires c =
-    let e = c.entry_at-e.ensures in (e.some, e.few)
-
-pub returns-then-not-divides_evenly : goal.returns-then-not-divides_evenly
-returns-then-not-divides_evenly c =
-    let a = c.args in
-    let ks = index_list a.d a.rows.now in
+pub returns-then-is_none : goal.returns-then-is_none
+returns-then-is_none c =
+    let rows = c.args.rows.now in
+    let lattice = c.args.lattice.now in
+    let ks = rows_in rows in
     sym
-    (false_every (gathers a.plan a.n (map pos a.z.now) a.sums.now) ks (get_or ks c.loop-i.i [])
-    (member_at ks [] c.loop-i.i (omega (arith, c.loop-i-test.true, rows-length a.d (row_count a.d a.rows.now) a.rows.now)))
-    (sym (tested (goal.at.returns-then-not-divides_evenly c).After-divides_evenly) ∙ not-true c.divides_evenly.result c.if-not-divides_evenly.true-raw))
+    (false_every (gathers (plan_number rows.plan) lattice.n (map pos lattice.z.now) c.args.sums.now) ks (get_or ks c.loop-i.i [])
+    (member_at ks [] c.loop-i.i (omega (arith, rows-length rows.d (row_count rows.d rows.numbers.now) rows.numbers.now)))
+    (tested (goal.at.returns-then-is_none c).After-is_none ∙ ap not c.if-is_none.true))
 
 pub loop-i-preserved : goal.loop-i-preserved
 loop-i-preserved c =
-    let a = c.args in (
-      omega arith,
-      below_more (λ j. gathers a.plan a.n (map pos a.z.now) a.sums.now (get_or (index_list a.d a.rows.now) j []) ≡ true) c.loop-i.i c.loop-i.invariant.1
-          (sym (tested (goal.at.loop-i-preserved c).After-divides_evenly) ∙ not-false c.divides_evenly.result c.if-not-divides_evenly.false-raw),
-    )
+    let rows = c.args.rows.now in
+    let lattice = c.args.lattice.now in
+    below_more (λ j. gathers (plan_number rows.plan) lattice.n (map pos lattice.z.now) c.args.sums.now (get_or (rows_in rows) j []) ≡ true) c.loop-i.i c.loop-i.invariant
+    (tested (goal.at.loop-i-preserved c).After-is_none ∙ ap not c.if-is_none.false)
 
 pub returns : goal.returns
 returns c =
-    let a = c.args in
-    let ks = index_list a.d a.rows.now in
-    let g = gathers a.plan a.n (map pos a.z.now) a.sums.now in
+    let rows = c.args.rows.now in
+    let lattice = c.args.lattice.now in
+    let ks = rows_in rows in
+    let g = gathers (plan_number rows.plan) lattice.n (map pos lattice.z.now) c.args.sums.now in
     sym
     (true_every g ks
     (at_places (λ k. g k ≡ true) ks []
-    (λ j l. c.loop-i.invariant.1 j (omega (arith, c.loop-i-test.false, rows-length a.d (row_count a.d a.rows.now) a.rows.now)))))
+    (λ j l. c.loop-i.invariant j (omega (arith, rows-length rows.d (row_count rows.d rows.numbers.now) rows.numbers.now)))))

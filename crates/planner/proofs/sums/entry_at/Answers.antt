@@ -1,25 +1,30 @@
--- `sums::entry_at` meets its contract: the row that is handed on is row i of the list (`row-ready`, `row_number`).
-use mathlib.Core.Path.{subst}
-use mathlib.Core.List.{List}
-use lib.IntN.{ℤ}
-use Rattle.rank1.proofs.IndexLaws.{row_inside}
+-- `sums::entry_at` meets its contract: the first of the row's residues is its own, and c is how often that occurs (`entry_is`); the row
+-- is row i of the list (`row_number`).
+use Rattle.std.proofs.Common.{refl, ◌∙◌, ap, subst, List, ℤ, arith, length, get_or}
+use lib.ListN.{length-map}
+use Rattle.rank1.specs.Named.{plan_number}
+use Rattle.rank1.specs.Sums.{mirrors_under}
+use Rattle.planner.specs.Lists.{residue_by}
 use Rattle.planner.specs.Inner.{EntryOf}
 use Rattle.planner.proofs.mirrors.MirrorResidues.{row-ready}
 use Rattle.planner.proofs.rule.RuleIndex.{row_number}
+use Rattle.planner.proofs.sums.SumSteps.{entry_is, counted}
 use Rattle.planner.proofs.sums.entry_at.Goals as goal
 
-pub row_at-requires : goal.row_at-requires
-row_at-requires c =
-    row_inside c.args.d c.args.i c.args.rows.now c.requires.i_bound c.requires.ready.whole
-
-pub entry_of-requires : goal.entry_of-requires
-entry_of-requires c =
-    let a = c.args in
-    row-ready a.d a.rows.now a.n a.z.now a.products.now a.i c.requires.ready c.requires.i_bound c.row_at.result.now c.row_at.ensures.0
+pub residues_under-residues-requires : goal.residues_under-residues-requires
+residues_under-residues-requires c =
+    let rows = c.args.rows.now in
+    let lattice = c.args.lattice.now in
+    row-ready rows.d rows.numbers.now lattice.n lattice.z.now lattice.products.now c.args.i c.requires.ready c.requires.i_bound c.row.result.now c.row.ensures.0
 
 pub returns : goal.returns
 returns c =
-    let a = c.args in
-    let k = c.row_at in
-    subst (λ (h : List ℤ). EntryOf a.plan a.n a.z.now h c.entry_of.result.residue c.entry_of.result.copies)
-    (row_number a.d a.rows.now a.i c.requires.i_bound k.result.now k.ensures.0) c.entry_of.ensures
+    let rows = c.args.rows.now in
+    let lattice = c.args.lattice.now in
+    let k = c.row in
+    let out = c.residues_under-residues in
+    let copies = c.occurrences_of-copies in
+    subst (λ (h : List ℤ). EntryOf (plan_number rows.plan) lattice.n lattice.z.now h (get_or out.result.now 0 0) copies.result)
+    (row_number rows.d rows.numbers.now c.args.i c.requires.i_bound k.result.now k.ensures.0)
+    (entry_is (plan_number rows.plan) lattice.n lattice.z.now k.result.now out.result.now out.ensures.0 (get_or out.result.now 0 0) copies.result c.requires.ready.modulus.low (omega (arith, k.ensures.1, c.requires.ready.few_axes)) (omega (arith, out.ensures.1, ap length out.ensures.0, length-map (mirrors_under (plan_number rows.plan) k.result.now) (residue_by lattice))) refl
+    (copies.ensures ∙ counted (get_or out.result.now 0 0) out.result.now))

@@ -1,6 +1,0 @@
--- `read_full`: what was read lies within the places.
-use Rattle.std.proofs.Common.{◌≡◌, ◌≤◌, length}
-use Rattle.input.proofs.read_full.Given as goal
-
-abbrev pub invariant-loop : goal.invariant-loop
-invariant-loop g l = (l.got ≤ length l.out) × (length l.out ≡ length l.fn.out)

@@ -1,0 +1,35 @@
+// What the search reads and writes beside the rows and the vector, put together by how long it holds: for a list, for a modulus, or for
+// one step of the recursion. One function owns each of these structs, since they are large; all others have them lent.
+
+use crate::sizes::{AXES, LARGEST_MODULUS, LASTS, LEVEL_ROOM, PRODUCT_ROOM, ROOM, SOLUTION_ROOM};
+
+// The tables of a list: the rows that end by each axis and how many numbers they are, the marks of the pairs of axes that can change
+// places and of the axes whose sign can change, the differences by the axis where they end, and where their runs begin.
+#[derive(Drop)]
+pub(crate) struct ListTables {
+    pub(crate) levels: [i16; (AXES + 1) * LEVEL_ROOM],
+    pub(crate) sizes: [usize; AXES + 1],
+    pub(crate) swaps: [bool; AXES * AXES],
+    pub(crate) flips: [bool; AXES],
+    pub(crate) components: [i16; AXES * ROOM],
+    pub(crate) bounds: [u16; AXES * LASTS + 1],
+}
+
+// The tables of a modulus: for the last components of the differences the solutions, where they begin, and how far apart they are.
+// kept: 0 stands for no step and n for no solution; an Option would ask for a test in the sieve's inner loop, which sets mark n without one.
+#[derive(Drop)]
+pub(crate) struct ModulusTables {
+    pub(crate) solutions: [u16; SOLUTION_ROOM],
+    pub(crate) starts: [usize; LASTS],
+    pub(crate) steps: [u16; LASTS],
+}
+
+// What the recursion writes beside the vector: the sums of the differences' parts, the products of the axes, the struck values and the
+// owners of the residues.
+#[derive(Drop)]
+pub(crate) struct Work {
+    pub(crate) sums: [u16; AXES * ROOM],
+    pub(crate) products: [u16; PRODUCT_ROOM],
+    pub(crate) struck: [u8; AXES * LARGEST_MODULUS + 1],
+    pub(crate) owners: [u16; LARGEST_MODULUS],
+}
