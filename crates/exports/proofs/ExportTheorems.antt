@@ -11,7 +11,7 @@ use lib.ListN.{length}
 use Rattle.std.specs.Prelude.{Result, Ok, Err}
 use Rattle.rank1.specs.declared.Tally.{Tally}
 use Rattle.rank1.specs.declared.Refusal.{Refusal}
-use Rattle.rank1.specs.Named.{number, refused, Answers}
+use Rattle.rank1.specs.Named.{refused, Answers}
 use Rattle.rank1.specs.Index.{index_list}
 use Rattle.rank1.specs.Rule.{Admissible}
 use Rattle.rank1.specs.Search.{Gentlest, Smallest}
@@ -23,7 +23,7 @@ use Rattle.rank1.proofs.NamedLaws.{number_some, answers_same, answers_refused}
 use Rattle.rank1.proofs.WinnerLaws.{one_wins}
 use Rattle.lists.specs.Answer.{CornerCall, LowerCall}
 use Rattle.lists.proofs.CornerTheorems.{corner_determined, lower_determined, corner_kept}
-use Rattle.planner.specs.Answer.{CheckCall, RefusedOr, GentlestOrNone, SmallestOrNone, VectorSearch, SmallestSearch}
+use Rattle.planner.specs.Answer.{CheckCall, RefusedOr, VectorSearch, SmallestSearch}
 use Rattle.planner.proofs.CallTheorems.{check_refused, check_one}
 use Rattle.planner.proofs.SearchTheorems.{search_vector_determined, search_smallest_determined, search_vector_keeps, search_smallest_keeps}
 use Rattle.exports.specs.declared.tally.PlannerTally.{PlannerTally}

@@ -121,8 +121,5 @@ pub fn planner_search_smallest(
 pub fn planner_gentler(left: &[u16], right: &[u16]) -> u8
     ensures { WinnerTold left.now right.now result }
 {
-    if planner::left_wins(left, right) {
-        return 0;
-    }
-    1
+    u8::from(!planner::left_wins(left, right))
 }

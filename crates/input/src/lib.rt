@@ -16,6 +16,7 @@ pub fn fill<R: Read>(reader: &mut R, out: &mut [u8]) -> io::Result<usize>
     ensures end { IfOk result (λ got. got < length out.old → IsAtEnd (R.remaining reader.new)) }
 {
     let mut got = 0;
+    // kept: a `loop` would have to be shown to end, and nothing bounds how often a read is interrupted, so the turns are counted.
     for _ in 0..u64::MAX {
         if got == out.len() {
             return Ok(got);

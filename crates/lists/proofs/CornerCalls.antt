@@ -1,14 +1,13 @@
--- What the calls about corners find, in the terms of their contracts: valid corners, the answers, and copying a row.
-use mathlib.Core.Path.{◌≡◌, refl, sym, ap}
-use mathlib.Core.Bool.{Bool, cond, true≢false}
+-- What the calls about corners find, in the terms of their contracts: valid corners, and the answers.
+use mathlib.Core.Path.{◌≡◌, refl, sym}
+use mathlib.Core.Bool.{true≢false}
 use mathlib.Core.List.{List, [], ◌∷◌, ◌++◌, Memᴰ}
-use Prim.Native.Nat.{ℕ, zero, suc, ◌+◌, ◌*◌, ◌≤◌}
+use Prim.Native.Nat.{ℕ, zero, suc, ◌*◌, ◌≤◌}
 use native.Mathlib.Nat.{div-add-mod'}
 use native.Mathlib.Omega.{arith}
-use borrow.Author.Tests.{le-leb}
 use lib.Dec.{T}
 use lib.IntN.{ℤ, pos, negsuc}
-use lib.ListN.{length, take, drop, replicate}
+use lib.ListN.{length, drop, replicate}
 use Rattle.rank1.specs.Index.{row_count, run_of}
 use Rattle.rank1.specs.Corners.{under}
 use Rattle.rank1.specs.Refusal.{first_of, bad_axes, bad_whole, bad_component, bad_corners, bad_places, corner_conditions, corner_refusal}
@@ -21,7 +20,6 @@ use Rattle.std.specs.Result.{IsErr}
 use Rattle.rank1.specs.declared.Refusal.{Refusal}
 use Rattle.rank1.specs.Named.{refused}
 use Rattle.rank1.proofs.NamedLaws.{number_some}
-use Rattle.lists.specs.Rows.{placed}
 use Rattle.lists.specs.Answer.{Fronted}
 use Rattle.lists.specs.Inner.{ValidCorners}
 
@@ -73,11 +71,3 @@ fronted_refused (suc k) ks before (Err e) is f = record { number = f; places = r
 pub fronted_given : (refusal m : ℕ) (ks : List (List ℤ)) (before after : List ℤ) → 0 ≡ refusal → m ≡ length ks → after ≡ run_of ks ++ drop (length (run_of ks)) before → Fronted refusal ks before after (Ok m)
 fronted_given zero m ks before after e f w = record { number = (refl, f); places = w }
 fronted_given (suc k) m ks before after e f w = absurd (omega arith)
-
--- ---- a row copied into a run where it fits
-module _ (at : ℕ) (k xs : List ℤ) where
-  abbrev copied : List ℤ
-  copied = take at xs ++ (k ++ drop (at + length k) xs)
-
-  pub placed_fits : at + length k ≤ length xs → placed at k xs ≡ copied
-  placed_fits l = ap (λ (b : Bool). cond b copied xs) (le-leb (at + length k) (length xs) l)

@@ -38,6 +38,7 @@ fn next(corners: &[i16], row: &mut [i16]) -> bool
     requires { Raisable corners.now row.old }
     ensures { Stepped (index_list (length row.old) corners.now) row.old row.new result }
 {
+    // kept: each turn writes one component and then tests the whole row, which no iterator over the components leaves free.
     for j in (0..row.len()).rev() {
         row[j] += 1;
         if under_some(row, corners) {

@@ -16,6 +16,7 @@ fn members_of(plan: Plan, row: &[i16]) -> u32
 {
     match plan {
         Plan::Integration | Plan::Fourier => 1,
+        // kept: a row has at most 64 mirrors; `try_from` would have an `Err` that never comes.
         Plan::A | Plan::B | Plan::C => mirror_count(row) as u32,
     }
 }
@@ -42,6 +43,7 @@ pub(crate) fn count(plan: Plan, d: usize, rows: &[i16]) -> Tally
         size: 0,
         zero: false,
     };
+    // kept: tried as a `fold`; that `plus` may be called with each record on the way is then a law of its own, which the check did not find.
     for row in rows.chunks_exact(d) {
         tally = plus(plan, tally, row);
     }

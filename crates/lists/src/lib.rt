@@ -29,6 +29,7 @@ const ROW_ROOM: usize = MOST_ROWS * AXES;
 const MOST_CORNERS: usize = 32;
 
 // Copies a row behind the first `at` numbers of a run; where it does not fit there, the run stays as it is.
+// kept: it is public and promises what becomes of the run at every place; the copy itself is the library's.
 pub fn copy_row(row: &[i16], run: &mut [i16], at: usize)
     ensures { run.new ≡ placed at row.now run.old }
 {
@@ -95,6 +96,7 @@ pub fn least_modulus(plan: u8, tally: Tally) -> Result<u16, Refusal>
 {
     let named = Plan::try_from(plan)?;
     bound::check_tally(tally)?;
+    // kept: a bound is at most 64 × 512 + 1; `try_from` would have an `Err` that never comes.
     Ok(bound::least_of(named, tally) as u16)
 }
 
@@ -108,9 +110,7 @@ pub fn corner_list(d: usize, corners: &[i16], out: &mut [i16]) -> Result<usize, 
         return Err(Refusal::Corners);
     }
     let mut rows = [0i16; ROW_ROOM];
-    let Some(count) = corners::fill(d, corners, &mut rows) else {
-        return Err(Refusal::Corners);
-    };
+    let count = corners::fill(d, corners, &mut rows).ok_or(Refusal::Corners)?;
     refusal::check_places(out.len(), MOST_ROWS * d)?;
     out[..count * d].copy_from_slice(&rows[..count * d]);
     Ok(count)

@@ -35,23 +35,13 @@ fn row_steps(row: &[i16], rows: &[i16]) -> bool
     requires { length row.now ≤ most_axes }
     ensures { Decides result (RowSteps (index_list (length row.now) rows.now) row.now) }
 {
-    for j in 0..row.len() {
-        if !component_steps(row, rows, j) {
-            return false;
-        }
-    }
-    true
+    (0..row.len()).all(|j| component_steps(row, rows, j))
 }
 
-// Whether all rows of the list do.
+// Whether all rows of the list do. kept: d and the rows stand apart, as in the public call that asks.
 pub(crate) fn list_steps(d: usize, rows: &[i16]) -> bool
     requires { (1 ≤ d) × (d ≤ most_axes) }
     ensures { Decides result (ListSteps (index_list d rows.now)) }
 {
-    for row in rows.chunks_exact(d) {
-        if !row_steps(row, rows) {
-            return false;
-        }
-    }
-    true
+    rows.chunks_exact(d).all(|row| row_steps(row, rows))
 }

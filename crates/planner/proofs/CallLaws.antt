@@ -1,6 +1,6 @@
 -- What the public calls share: arguments that no condition from 1 to 7 refuses are valid, a valid call with the products of z is
 -- what the private functions ask for, and what an answer says of the lent places.
-use mathlib.Core.Path.{◌≡◌, refl, sym, ◌∙◌, ap}
+use mathlib.Core.Path.{◌≡◌, refl, sym, ◌∙◌, ap, subst}
 use mathlib.Core.Logic.{◌≢◌}
 use mathlib.Core.List.{List, ◌++◌}
 use Prim.Native.Nat.{ℕ, zero, suc, ◌≤◌}
@@ -58,6 +58,18 @@ module _ (plan d : ℕ) (xs : List ℤ) (n : ℕ) (z : List ℕ) where
 -- ---- the rows that a call was given are valid as its arguments are
 pub given_valid : {plan d n : ℕ} {xs : List ℤ} {z : List ℕ} {rows : Rows} → Given plan d xs rows → ValidCall plan d xs n z → ValidCall (plan_number rows.plan) rows.d rows.numbers.now n z
 given_valid g v = rw g.plans (rw g.axes (rw g.numbers v))
+
+-- what is so of them is so of the arguments
+pub of_given : {plan d : ℕ} {xs : List ℤ} {rows : Rows} (P : ℕ → ℕ → List ℤ → Type 0) → Given plan d xs rows → P (plan_number rows.plan) rows.d rows.numbers.now → P plan d xs
+of_given {plan} {d} {xs} {rows} P g p =
+    subst (λ (a : ℕ). P a d xs) g.plans (subst (λ (a : ℕ). P (plan_number rows.plan) a xs) g.axes (subst (P (plan_number rows.plan) rows.d) g.numbers p))
+
+-- and what is so of them and of the modulus and the vector that a lattice was made of
+pub of_arguments :
+    {plan d m n : ℕ} {xs : List ℤ} {y z : List ℕ} {rows : Rows} (P : ℕ → ℕ → List ℤ → ℕ → List ℕ → Type 0) → Given plan d xs rows → (m ≡ n) × (y ≡ z)
+    → P (plan_number rows.plan) rows.d rows.numbers.now m y → P plan d xs n z
+of_arguments {plan} {d} {m} {n} {xs} {y} {z} P g made p =
+    subst (λ (a : ℕ). P plan d xs a z) made.0 (subst (P plan d xs m) made.1 (of_given (λ a b ys. P a b ys m y) g p))
 
 -- ---- the components of a valid list, in document 01's range
 pub covered_valid : (plan d : ℕ) (xs : List ℤ) → ValidList plan d xs → Covered largest_component xs

@@ -13,11 +13,11 @@ use lib.Seq.{get_or-take}
 use Rattle.rank1.specs.Named.{plan_number}
 use Rattle.planner.specs.declared.search.Search.{Search}
 use Rattle.planner.specs.declared.tables.Work.{Work}
-use Rattle.rank1.specs.Index.{index_list}
 use Rattle.rank1.specs.Rule.{Admissible}
 use Rattle.rank1.specs.Corners.{Lower, Shortened}
 use Rattle.rank1.proofs.ShortLaws.{Cut, short_rule, short_prune}
 use Rattle.planner.specs.Levels.{ending}
+use Rattle.planner.specs.Lists.{rows_in}
 use Rattle.planner.specs.Stage.{NoneFrom, Tried}
 use Rattle.planner.proofs.levels.LevelLaws.{zero_from_lem, from_zero_lem, ending-out, ending_in}
 
@@ -47,10 +47,10 @@ module _ (plan d j : ℕ) (ks hs : List (List ℤ)) (within : j ≤ d) (long : (
 
 -- the search tries v for component at: it goes on only where the shortened rows keep the rule, unless every difference is struck and so the
 -- sieve stands for the test
-module _ (s : Search) (at v : ℕ) (rows : List ℤ) (z : List ℕ) (w : Work) (z' : List ℕ) (w' : Work) (r : Bool) (tried : Tried s at v rows z w z' w' r) (hs : List (List ℤ)) (within : at + 1 ≤ s.d) (long : (k : List ℤ) → Memᴰ k (index_list s.d rows) → length k ≡ s.d) (low : Lower (index_list s.d rows)) (short : Shortened (at + 1) (index_list s.d rows) hs) where
-  pub short_dropped : s.sieved ≡ false → (Admissible (plan_number s.plan) hs s.n (map pos (take (at + 1) z')) → ⊥) → r ≡ false
+module _ (s : Search) (at v : ℕ) (z : List ℕ) (w : Work) (z' : List ℕ) (w' : Work) (r : Bool) (tried : Tried s at v z w z' w' r) (hs : List (List ℤ)) (within : at + 1 ≤ s.task.rows.d) (long : (k : List ℤ) → Memᴰ k (rows_in s.task.rows) → length k ≡ s.task.rows.d) (low : Lower (rows_in s.task.rows)) (short : Shortened (at + 1) (rows_in s.task.rows) hs) where
+  pub short_dropped : s.sieved ≡ false → (Admissible (plan_number s.task.rows.plan) hs s.n (map pos (take (at + 1) z')) → ⊥) → r ≡ false
   short_dropped unsieved breaks = go r refl
     where
       go : (b : Bool) → r ≡ b → b ≡ false
-      go true e = absurd (breaks ((short_level (plan_number s.plan) s.d (at + 1) (index_list s.d rows) hs within long low short s.n z').1 (tried.tested unsieved e)))
+      go true e = absurd (breaks ((short_level (plan_number s.task.rows.plan) s.task.rows.d (at + 1) (rows_in s.task.rows) hs within long low short s.n z').1 (tried.tested unsieved e)))
       go false e = refl

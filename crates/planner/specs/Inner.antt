@@ -22,15 +22,15 @@ pub record Products (n : ℕ) (z : List ℕ) (top : ℕ) (table : List ℕ) : Ty
   pub size : length table ≡ product_room
   pub entry : (j : ℕ) (x : ℤ) → j < length z → nat_abs x ≤ top → get_or table (j * places + place x) 0 ≡ residue n (x *ℤ pos (get_or z j 0))
 
--- the first k numbers are as they were
-abbrev pub KeptBelow : ℕ → List ℕ → List ℕ → Type 0
-KeptBelow k old new = (i : ℕ) → i < k → get_or new i 0 ≡ get_or old i 0
+-- the first k entries are as they were; x is what stands where a list has none
+abbrev pub KeptBelow : {A : Type 0} → A → ℕ → List A → List A → Type 0
+KeptBelow x k old new = (i : ℕ) → i < k → get_or new i x ≡ get_or old i x
 
 -- the products of one axis are set anew; those of the axes before it stay
 pub record AxisSet (n v axis top : ℕ) (old new : List ℕ) : Type 0 where
   pub size : length new ≡ length old
   pub entry : (x : ℤ) → nat_abs x ≤ top → get_or new (axis * places + place x) 0 ≡ residue n (x *ℤ pos v)
-  pub kept : KeptBelow (axis * places) old new
+  pub kept : KeptBelow 0 (axis * places) old new
 
 -- no component is larger than top
 pub record Covered (top : ℕ) (xs : List ℤ) : Type 0 where

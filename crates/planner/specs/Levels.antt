@@ -3,7 +3,7 @@
 use Rattle.std.specs.Prelude.{◌≡◌, Bool, true, false, cond, List, [], ◌∷◌, ◌++◌, ℕ, ◌+◌, ◌*◌, ◌<◌, ◌≤◌, ℤ, pos, length, get_or, take, drop}
 use Rattle.rank1.specs.Tests.{every, same_number}
 use Rattle.rank1.specs.Index.{row_count, index_list}
-use Rattle.planner.specs.Sizes.{axes, level_room}
+use Rattle.planner.specs.Sizes.{level_room}
 use Rattle.planner.specs.Inner.{Covered}
 
 -- every component from axis j on is 0
@@ -24,10 +24,10 @@ pub record RunOf (d : ℕ) (ks : List (List ℤ)) (xs : List ℤ) : Type 0 where
   pub rows : index_list d xs ≡ ks
   pub whole : length xs ≡ row_count d xs * d
 
--- row i, where it is 0 from axis j on, is copied behind the first `at` numbers, which then are r; any other is passed over
-pub record RowKept (d i j at : ℕ) (xs old new : List ℤ) (r : ℕ) : Type 0 where
-  pub copied : zero_from j (take d (drop (i * d) xs)) ≡ true → (new ≡ take at old ++ take d (drop (i * d) xs) ++ drop (at + d) old) × (r ≡ at + d)
-  pub passed : zero_from j (take d (drop (i * d) xs)) ≡ false → (new ≡ old) × (r ≡ at)
+-- a row k, where it is 0 from axis j on, is copied behind the first `at` numbers, which then are r; any other is passed over
+pub record RowKept (j at : ℕ) (k old new : List ℤ) (r : ℕ) : Type 0 where
+  pub copied : zero_from j k ≡ true → (new ≡ take at old ++ k ++ drop (at + length k) old) × (r ≡ at + length k)
+  pub passed : zero_from j k ≡ false → (new ≡ old) × (r ≡ at)
 
 -- r numbers at the front of `new` are the rows of xs that are 0 from axis j on; no number is in `new` that was not there before
 -- or in xs
@@ -36,20 +36,14 @@ pub record Kept (d j : ℕ) (xs old new : List ℤ) (r : ℕ) : Type 0 where
   pub fits : r ≤ length xs
   pub covers : (top : ℕ) → Covered top xs → Covered top old → Covered top new
 
--- the places of the levels and of their sizes: one level for each axis and one for the whole list
-pub record LevelPlaces (top : ℕ) (levels : List ℤ) (sizes : List ℕ) : Type 0 where
-  pub tall : length sizes ≡ axes + 1
-  pub long : length levels ≡ (axes + 1) * level_room
-  pub covers : Covered top levels
-
 -- the levels before j hold the rows of xs that end by their axes
 pub record LevelsTo (d top j : ℕ) (xs levels : List ℤ) (sizes : List ℕ) : Type 0 where
-  pub area : LevelPlaces top levels sizes
+  pub covers : Covered top levels
   pub few : (i : ℕ) → i < j → get_or sizes i 0 ≤ level_room
   pub level : (i : ℕ) → i < j → RunOf d (ending i (index_list d xs)) (level_run levels sizes i)
 
 -- all of them
 pub record Levels (d top : ℕ) (xs levels : List ℤ) (sizes : List ℕ) : Type 0 where
-  pub area : LevelPlaces top levels sizes
+  pub covers : Covered top levels
   pub few : (j : ℕ) → j ≤ d → get_or sizes j 0 ≤ level_room
   pub level : (j : ℕ) → j ≤ d → RunOf d (ending j (index_list d xs)) (level_run levels sizes j)

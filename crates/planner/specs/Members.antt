@@ -92,3 +92,13 @@ pub record Mirroring (d a from owner : ℕ) (k : List ℤ) (m : Members) : Type 
   pub owned : (e : ℕ) → from ≤ e → e < m.count → get_or m.owners e 0 ≡ owner
   pub kin : (s : List ℤ) → Memᴰ s (members_from d from m) → Memᴰ s (mirrors k)
   pub all : m.whole ≡ true → (s : List ℤ) → Memᴰ s (mirrors k) → SameFrom a s k → Memᴰ s (members_from d from m)
+
+-- from number `from` on they are mirrors of k, which has the number `owner`, as the plan takes them; where they are said to be whole, these
+-- are all there
+pub record RowMembers (plan d from owner : ℕ) (k : List ℤ) (m : Members) : Type 0 where
+  pub few_axes : d ≤ axes
+  pub few : m.count ≤ most_members
+  pub within : from ≤ m.count
+  pub owned : (e : ℕ) → from ≤ e → e < m.count → get_or m.owners e 0 ≡ owner
+  pub kin : (s : List ℤ) → Memᴰ s (members_from d from m) → Memᴰ s (mirrors_under plan k)
+  pub all : m.whole ≡ true → (s : List ℤ) → Memᴰ s (mirrors_under plan k) → Memᴰ s (members_from d from m)

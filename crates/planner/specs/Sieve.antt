@@ -1,9 +1,9 @@
 -- The sieve. The differences of a run all end at one axis with one component t, so a value v of that axis's component is struck
 -- where c + t v = 0 modulo n, for c the residue of the part of some difference of the run before that axis. For each t a table
 -- gives the solutions v. The tables hold difference e of axis j at place j * room + e. No public contract cites this.
-use Rattle.std.specs.Prelude.{◌≡◌, ◌⊎◌, ◌≢◌, List, ℕ, suc, ◌+◌, ◌*◌, ◌%◌, ◌<◌, ◌≤◌, ℤ, pos, nat_abs, length, get_or, drop}
+use Rattle.std.specs.Prelude.{◌≡◌, ◌⊎◌, Bool, true, false, Option, Some, None, List, ℕ, suc, ◌+◌, ◌*◌, ◌%◌, ◌<◌, ◌≤◌, ℤ, pos, nat_abs, length, get_or, drop}
 use Rattle.rank1.specs.Valid.{ValidModulus}
-use Rattle.planner.specs.Inner.{place, Covered}
+use Rattle.planner.specs.Inner.{place, KeptBelow, Covered}
 use Rattle.planner.specs.declared.tables.ListTables.{ListTables}
 use Rattle.planner.specs.declared.tables.ModulusTables.{ModulusTables}
 use Rattle.planner.specs.Runs.{Bounds}
@@ -11,24 +11,29 @@ use Rattle.planner.specs.Sizes.{axes, largest_modulus, largest_size, places, pro
 
 -- ---- marks and solutions
 -- place v is marked
-abbrev pub Marked : List ℕ → ℕ → Type 0
-Marked marks v = get_or marks v 0 ≢ 0
+abbrev pub Marked : List Bool → ℕ → Type 0
+Marked marks v = get_or marks v false ≡ true
 
 -- w is a number of steps behind v
 abbrev pub Steps : ℕ → ℕ → ℕ → Type 0
 Steps v step w = (k : ℕ) × (w ≡ v + step * k)
 
 -- what marking below n asks
-pub record Markable (n step : ℕ) (marks : List ℕ) : Type 0 where
+pub record Markable (n step : ℕ) (marks : List Bool) : Type 0 where
   pub high : n ≤ largest_modulus
   pub inside : n ≤ length marks
   pub some : 1 ≤ step
   pub few : step ≤ n
 
 -- every place that is marked afterwards was marked before or is a number of steps behind v
-pub record Marking (v step : ℕ) (old new : List ℕ) : Type 0 where
+pub record Marking (v step : ℕ) (old new : List Bool) : Type 0 where
   pub size : length new ≡ length old
   pub reason : (w : ℕ) → Marked new w → Marked old w ⊎ Steps v step w
+
+-- every value below n that is marked afterwards was marked before, or X holds of it
+pub record MarkedFor (n : ℕ) (X : ℕ → Type 0) (old new : List Bool) : Type 0 where
+  pub size : length new ≡ length old
+  pub reason : (v : ℕ) → v < n → Marked new v → Marked old v ⊎ X v
 
 -- for each c below n a v below n with c + t v = 0 modulo n, or n, which stands for none
 pub record Solutions (n t : ℕ) (solutions : List ℕ) : Type 0 where
@@ -48,12 +53,12 @@ pub record TableAt (n t start step : ℕ) (solutions : List ℕ) : Type 0 where
   pub inside : start + n ≤ length solutions
   pub right : SolutionsSet n t step (drop start solutions)
 
--- the tables of solutions of n: last component t has one where its step is not 0
+-- the tables of solutions of n: last component t has one where it has a step
 pub record SolutionsOf (n : ℕ) (M : ModulusTables) : Type 0 where
   pub wide : length M.solutions ≡ solution_room
   pub starts_size : length M.starts ≡ lasts
   pub steps-size : length M.steps ≡ lasts
-  pub tables : (t : ℕ) → t < lasts → get_or M.steps t 0 ≢ 0 → TableAt n t (get_or M.starts t 0) (get_or M.steps t 0) M.solutions
+  pub tables : (t step : ℕ) → t < lasts → get_or M.steps t None ≡ Some step → TableAt n t (get_or M.starts t 0) step M.solutions
 
 -- what setting the tables asks: those of the last components up to `tail` on the first d axes
 pub record Tabulable (n d tail : ℕ) : Type 0 where
@@ -65,7 +70,7 @@ pub record Tabulable (n d tail : ℕ) : Type 0 where
 pub record TablesTo (n most : ℕ) (M : ModulusTables) : Type 0 where
   pub solved : SolutionsOf n M
   pub high : most ≤ solution_room
-  pub before : (t : ℕ) → t < lasts → get_or M.steps t 0 ≢ 0 → get_or M.starts t 0 + n ≤ most
+  pub before : (t step : ℕ) → t < lasts → get_or M.steps t None ≡ Some step → get_or M.starts t 0 + n ≤ most
 
 -- ---- one run: the sums of its differences up to the axis before last, their components on that axis, and its products
 module _ (n : ℕ) (sums : List ℕ) (components : List ℤ) (products : List ℕ) where
@@ -87,7 +92,7 @@ module _ (n : ℕ) (sums : List ℕ) (components : List ℤ) (products : List �
     pub products_below : (i : ℕ) → i < length sums → product i < n
 
   -- what striking asks: mark n is there too, and stands for no value
-  pub record Strikable (t step : ℕ) (solutions marks : List ℕ) : Type 0 where
+  pub record Strikable (t step : ℕ) (solutions : List ℕ) (marks : List Bool) : Type 0 where
     pub run : Run
     pub solved : SolutionsSet n t step solutions
     pub inside : n < length marks
@@ -99,9 +104,8 @@ module _ (n : ℕ) (sums : List ℕ) (components : List ℤ) (products : List �
     pub solved : (part which + t * v) % n ≡ 0
 
   -- every value that is marked afterwards was marked before or solves
-  pub record Struck (t : ℕ) (old new : List ℕ) : Type 0 where
-    pub size : length new ≡ length old
-    pub reason : (v : ℕ) → v < n → Marked new v → Marked old v ⊎ Solves t v
+  abbrev pub Struck : ℕ → List Bool → List Bool → Type 0
+  Struck t old new = MarkedFor n (Solves t) old new
 
 -- ---- all differences: their components, the products of z, and the residues of their parts before each axis
 module _ (n j : ℕ) (components : List ℤ) (products sums : List ℕ) where
@@ -161,29 +165,29 @@ module _ (n j : ℕ) (T : ListTables) (products sums : List ℕ) where
     pub solved : (part_at n j T.components products sums which + last * v) % n ≡ 0
 
   -- among the marks of one axis each was there before or is forbidden
-  pub record Barred (old new : List ℕ) : Type 0 where
-    pub size : length new ≡ length old
-    pub reason : (v : ℕ) → v < n → Marked new v → Marked old v ⊎ Forbidden v
+  abbrev pub Barred : List Bool → List Bool → Type 0
+  Barred old new = MarkedFor n Forbidden old new
 
   -- each of them is forbidden
-  abbrev pub AllBarred : List ℕ → Type 0
+  abbrev pub AllBarred : List Bool → Type 0
   AllBarred marks = (v : ℕ) → v < n → Marked marks v → Forbidden v
 
   -- each mark of the axis is forbidden; the marks of the axes before it stay
-  pub record Sieved (old new : List ℕ) : Type 0 where
+  pub record Sieved (old new : List Bool) : Type 0 where
     pub size : length new ≡ length old
-    pub kept : (i : ℕ) → i < suc j * largest_modulus → get_or new i 0 ≡ get_or old i 0
+    pub kept : KeptBelow false (suc j * largest_modulus) old new
     pub reason : (v : ℕ) → v < n → Marked new (suc j * largest_modulus + v) → Forbidden v
 
 -- ---- the sieve at the first axis: nothing stands before it, so a value v is struck where t v = 0 modulo n
--- the step of t is a period of it, where it is not 0
-pub record Periods (n : ℕ) (steps : List ℕ) : Type 0 where
+-- the step of t is a period of it, where it has one
+pub record Periods (n : ℕ) (steps : List (Option ℕ)) : Type 0 where
   pub size : length steps ≡ lasts
-  pub few : (t : ℕ) → t < lasts → get_or steps t 0 ≢ 0 → get_or steps t 0 ≤ n
-  pub period : (t : ℕ) → t < lasts → get_or steps t 0 ≢ 0 → (t * get_or steps t 0) % n ≡ 0
+  pub some : (t step : ℕ) → t < lasts → get_or steps t None ≡ Some step → 1 ≤ step
+  pub few : (t step : ℕ) → t < lasts → get_or steps t None ≡ Some step → step ≤ n
+  pub period : (t step : ℕ) → t < lasts → get_or steps t None ≡ Some step → (t * step) % n ≡ 0
 
 -- what it asks; components up to `tail` are looked at
-pub record FirstSievable (n tail : ℕ) (bounds steps struck : List ℕ) : Type 0 where
+pub record FirstSievable (n tail : ℕ) (bounds : List ℕ) (steps : List (Option ℕ)) (struck : List Bool) : Type 0 where
   pub modulus : ValidModulus n
   pub bounded : Bounds bounds
   pub short : tail < lasts
@@ -200,11 +204,10 @@ pub record FirstForbidden (n : ℕ) (bounds : List ℕ) (v : ℕ) : Type 0 where
   pub solved : (last * v) % n ≡ 0
 
 -- each mark was there before or is forbidden
-pub record FirstBarred (n : ℕ) (bounds old new : List ℕ) : Type 0 where
-  pub size : length new ≡ length old
-  pub reason : (v : ℕ) → v < n → Marked new v → Marked old v ⊎ FirstForbidden n bounds v
+abbrev pub FirstBarred : ℕ → List ℕ → List Bool → List Bool → Type 0
+FirstBarred n bounds old new = MarkedFor n (FirstForbidden n bounds) old new
 
 -- each of them is forbidden
-pub record AllFirstBarred (n : ℕ) (bounds old new : List ℕ) : Type 0 where
+pub record AllFirstBarred (n : ℕ) (bounds : List ℕ) (old new : List Bool) : Type 0 where
   pub size : length new ≡ length old
   pub reason : (v : ℕ) → v < n → Marked new v → FirstForbidden n bounds v

@@ -27,12 +27,9 @@ fn swapped_row_equal(row: &[i16], other: &[i16], i: usize, j: usize) -> bool
     requires i_in_bounds { (i < length other.now) × (j < length other.now) }
     ensures { result ≡ true → row.now ≡ swap i j other.now }
 {
-    for (a, x) in row.iter().enumerate() {
-        if *x != other[other_axis(a, i, j)] {
-            return false;
-        }
-    }
-    true
+    row.iter()
+        .enumerate()
+        .all(|(a, x)| *x == other[other_axis(a, i, j)])
 }
 
 // Whether a row with its components i and j exchanged is one of the rows.
@@ -41,12 +38,7 @@ fn stands_swapped(rows: &Rows, row: &[i16], i: usize, j: usize) -> bool
     requires i_lt_d { (i < rows.now.d) × (j < rows.now.d) }
     ensures { result ≡ true → Memᴰ (swap i j row.now) (rows_in rows.now) }
 {
-    for t in 0..rows.count() {
-        if swapped_row_equal(rows.row(t), row, i, j) {
-            return true;
-        }
-    }
-    false
+    rows.each().any(|other| swapped_row_equal(other, row, i, j))
 }
 
 // Whether the list stays itself when axes i and j change places.
@@ -55,12 +47,7 @@ fn axes_interchange(rows: &Rows, i: usize, j: usize) -> bool
     requires i_lt_d { (i < rows.now.d) × (j < rows.now.d) }
     ensures { result ≡ true → Interchangeable i j (rows_in rows.now) }
 {
-    for t in 0..rows.count() {
-        if !stands_swapped(rows, rows.row(t), i, j) {
-            return false;
-        }
-    }
-    true
+    rows.each().all(|row| stands_swapped(rows, row, i, j))
 }
 
 // Marks the axes before j with which axis j can change places.

@@ -3,6 +3,7 @@
 // stops. Differences can be collected that end at one axis alone, the level; AXES stands for all axes.
 
 ghost use Rattle.std.specs.Prelude.{◌≡◌, true, false, ◌≤◌, ◌<◌, length};
+ghost use Rattle.rank1.specs.Index.{row_count};
 ghost use Rattle.rank1.specs.Named.{plan_number};
 ghost use Rattle.planner.specs.Sizes.{most_members, largest_component};
 ghost use Rattle.planner.specs.Inner.{Covered};
@@ -102,6 +103,7 @@ impl Differences {
         requires stored { Stored pairing.now.d self.old }
         ensures { GrownTo pairing.now.d (Turns from pairing.now.members.now.count (MemberPair (plan_number pairing.now.plan) pairing.now.d owner pairing.now.members.now row.now)) self.old self.new }
     {
+        // kept: e is a member, whose row and whose owner stand in two arrays, and a chain over both is no plainer.
         for e in from..pairing.members.count {
             self.add_member(pairing, row, owner, e);
             if self.is_full() {
@@ -110,14 +112,13 @@ impl Differences {
         }
     }
 
-    // Adds the differences of each of a number of rows and the members that it meets, until the table is full.
-    fn pair_each(&mut self, pairing: &Pairing, rows: &[i16], number: usize, behind: bool)
-        requires row_run { RowRun pairing.now.d number rows.now × (behind ≡ true → number ≤ pairing.now.members.now.count) }
+    // Adds the differences of each row of a run and the members that it meets, until the table is full.
+    fn pair_each(&mut self, pairing: &Pairing, rows: &[i16], behind: bool)
+        requires row_run { RowRun pairing.now.d (row_count pairing.now.d rows.now) rows.now × (behind ≡ true → row_count pairing.now.d rows.now ≤ pairing.now.members.now.count) }
         requires pairable { Pairable pairing.now.d pairing.now.members.now × Stored pairing.now.d self.old }
-        ensures { GrownTo pairing.now.d (Turns 0 number (MetPairs (plan_number pairing.now.plan) pairing.now.d behind rows.now pairing.now.members.now)) self.old self.new }
+        ensures { GrownTo pairing.now.d (Turns 0 (row_count pairing.now.d rows.now) (MetPairs (plan_number pairing.now.plan) pairing.now.d behind rows.now pairing.now.members.now)) self.old self.new }
     {
-        for i in 0..number {
-            let row = row_at(rows, i, pairing.d);
+        for (i, row) in rows.chunks_exact(pairing.d).enumerate() {
             self.add_against(pairing, row, i, first_met(behind, i));
             if self.is_full() {
                 return;
@@ -140,9 +141,13 @@ impl Differences {
             members,
         };
         match rows.plan {
-            Plan::Integration => self.pair_each(&pairing, &[0i16; AXES][..d], 1, false),
-            Plan::Fourier | Plan::A => self.pair_each(&pairing, &members.rows, members.count, true),
-            Plan::B | Plan::C => self.pair_each(&pairing, rows.numbers, rows.count(), false),
+            Plan::Integration => self.pair_each(&pairing, &[0i16; AXES][..d], false),
+            Plan::Fourier | Plan::A => self.pair_each(
+                &pairing,
+                &members.rows[..members.count * d],
+                true,
+            ),
+            Plan::B | Plan::C => self.pair_each(&pairing, rows.numbers, false),
         }
     }
 }

@@ -10,12 +10,13 @@ ghost use Rattle.planner.specs.Inner.{Covered};
 ghost use Rattle.planner.specs.Table.{rows_found, EitherSign, Stored, SeesNoSign, MarksRight};
 
 use crate::list::Rows;
-use crate::rows::{end_of, row_at};
+use crate::rows::end_of;
 use crate::sizes::AXES;
 use crate::table::Differences;
 use rank1::Plan;
 
 // Changes the sign of every component.
+// kept: the library has no such method, and a loop has a function of its own here.
 fn negate(h: &mut [i16])
     requires { Covered largest_size h.old }
     ensures { h.new ≡ negative h.old }
@@ -55,8 +56,8 @@ impl Differences {
     {
         let mut places = [0i16; AXES];
         let h = &mut places[..d];
-        for i in 0..self.count {
-            set_flipped(row_at(&self.rows, i, d), j, h);
+        for row in self.rows[..self.count * d].chunks_exact(d) {
+            set_flipped(row, j, h);
             if !self.stands(h) {
                 return false;
             }
@@ -84,7 +85,7 @@ pub(crate) fn set_flips(rows: &Rows, found: &Differences, flips: &mut [bool])
     requires { (rows.now.d ≤ length flips.old) × Stored rows.now.d found.now }
     ensures { MarksRight (plan_number rows.now.plan) rows.now.d found.now flips.new }
 {
-    for j in 0..rows.d {
-        flips[j] = sees_no_sign(rows.plan, rows.d, j, found);
+    for (j, flip) in flips[..rows.d].iter_mut().enumerate() {
+        *flip = sees_no_sign(rows.plan, rows.d, j, found);
     }
 }

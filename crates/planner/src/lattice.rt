@@ -20,6 +20,7 @@ pub(crate) struct Lattice<'a> {
 
 impl<'a> Lattice<'a> {
     // The lattice of n and z, with the products of z for the rows of a valid call in the places lent for them.
+    // kept: here n, z and the places, which a caller has one by one, become a `Lattice`.
     pub(crate) fn of(
         rows: &Rows,
         n: u16,

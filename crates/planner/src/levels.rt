@@ -2,7 +2,7 @@
 // the search tests the rule on a level before it goes deeper.
 
 ghost use Rattle.std.specs.Prelude.{◌≡◌, ◌+◌, ◌*◌, ◌≤◌, ◌<◌, length, get_or};
-ghost use Rattle.planner.specs.Sizes.{level_room};
+ghost use Rattle.planner.specs.Sizes.{axes, level_room};
 ghost use Rattle.planner.specs.Inner.{Covered, WholeRows};
 ghost use Rattle.planner.specs.Lists.{ValidRows};
 ghost use Rattle.planner.specs.Levels.{zero_from, level_run, RowKept, Kept, Levels};
@@ -12,6 +12,7 @@ use crate::sizes::LEVEL_ROOM;
 use crate::tables::ListTables;
 
 // Whether a row is 0 from axis j on.
+// kept: that this is the definition's test is proved once here.
 fn ends_by(row: &[i16], j: usize) -> bool
     requires { j ≤ length row.now }
     ensures { result ≡ zero_from j row.now }
@@ -19,20 +20,18 @@ fn ends_by(row: &[i16], j: usize) -> bool
     row.iter().skip(j).all(|x| *x == 0)
 }
 
-// Copies row i of a list behind the first `at` numbers of a run where it is 0 from axis j on, and returns how many stand there then.
+// Copies a row behind the first `at` numbers of a run where it is 0 from axis j on, and returns how many stand there then.
 // kept: out and at are a part of one array of the tables and how much of it is written; a struct of the two would be made and taken apart
 // in keep_ending alone.
-fn keep_row(rows: &Rows, i: usize, j: usize, out: &mut [i16], at: usize) -> usize
-    requires i_in_bounds { ((i + 1) * rows.now.d ≤ length rows.now.numbers.now) × (at + rows.now.d ≤ length out.old) }
-    requires j_le_d { j ≤ rows.now.d }
-    ensures { RowKept rows.now.d i j at rows.now.numbers.now out.old out.new result }
+fn keep_row(row: &[i16], j: usize, out: &mut [i16], at: usize) -> usize
+    requires { (j ≤ length row.now) × (at + length row.now ≤ length out.old) }
+    ensures { RowKept j at row.now out.old out.new result }
 {
-    let row = rows.row(i);
     if !ends_by(row, j) {
         return at;
     }
-    out[at..at + rows.d].copy_from_slice(row);
-    at + rows.d
+    out[at..at + row.len()].copy_from_slice(row);
+    at + row.len()
 }
 
 // Writes the rows that are 0 from axis j on to the front of out, in their order, and returns how many numbers they are.
@@ -42,8 +41,8 @@ fn keep_ending(rows: &Rows, j: usize, out: &mut [i16]) -> usize
     ensures { Kept rows.now.d j rows.now.numbers.now out.old out.new result }
 {
     let mut at = 0;
-    for i in 0..rows.count() {
-        at = keep_row(rows, i, j, out, at);
+    for row in rows.each() {
+        at = keep_row(row, j, out, at);
     }
     at
 }
@@ -65,7 +64,7 @@ pub(crate) fn set_levels(rows: &Rows, top: usize, list: &mut ListTables)
 
 // The rows of a level.
 pub(crate) fn level_at(j: usize, list: &ListTables) -> &[i16]
-    requires { (j < length list.now.sizes) × (j * level_room + get_or list.now.sizes j 0 ≤ length list.now.levels) }
+    requires { (j ≤ axes) × (get_or list.now.sizes j 0 ≤ level_room) }
     ensures { result.now ≡ level_run list.now.levels list.now.sizes j }
 {
     let a = j * LEVEL_ROOM;

@@ -1,6 +1,7 @@
 // The list that a call is about, once its plan has a name.
 
 ghost use Rattle.std.specs.Prelude.{◌≡◌, ◌+◌, ◌*◌, ◌≤◌, length};
+ghost use Rattle.std.specs.Slice.Iter.{chunks_exact_rest, chunks_exact_size};
 ghost use Rattle.rank1.specs.Index.{row_count};
 ghost use Rattle.rank1.specs.Named.{plan_number};
 ghost use Rattle.planner.specs.Inner.{row_at};
@@ -8,6 +9,7 @@ ghost use Rattle.planner.specs.Lists.{Given};
 
 use crate::rows::row_at;
 use rank1::Plan;
+use std::slice::ChunksExact;
 
 // The rows of a list, of d components each, one behind the other, and the plan that is to keep them apart.
 #[derive(Clone, Copy)]
@@ -37,6 +39,15 @@ impl<'a> Rows<'a> {
         ensures { result ≡ row_count self.now.d self.now.numbers.now }
     {
         self.numbers.len() / self.d
+    }
+
+    // The rows, one by one.
+    pub(crate) fn each(&self) -> ChunksExact<'a, i16>
+        requires { 1 ≤ self.now.d }
+        ensures rest { chunks_exact_rest result ≡ self.now.numbers.now }
+        ensures size { chunks_exact_size result ≡ self.now.d }
+    {
+        self.numbers.chunks_exact(self.d)
     }
 
     // Row i.

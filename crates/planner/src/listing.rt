@@ -2,7 +2,6 @@
 // differences in runs as the sieve reads them.
 
 ghost use Rattle.std.specs.Prelude.{◌≡◌};
-ghost use Rattle.rank1.specs.Named.{plan_number};
 ghost use Rattle.planner.specs.Stage.{Differable, Differenced};
 
 use crate::fill::fill_table;
@@ -25,10 +24,18 @@ pub(crate) struct Listing {
     pub(crate) whole: bool,
 }
 
+// What the search of a list is about at every modulus: the list, its tables, and what was told when its differences were set.
+#[derive(Clone, Copy)]
+pub(crate) struct Task<'a> {
+    pub(crate) rows: Rows<'a>,
+    pub(crate) list: &'a ListTables,
+    pub(crate) listing: Listing,
+}
+
 // Sets the differences of a valid list and the marks of the axes whose sign can change.
 pub(crate) fn set_differences(rows: &Rows, list: &mut ListTables) -> Listing
     requires { Differable rows.now list.old }
-    ensures made { Differenced (plan_number rows.now.plan) rows.now.d result.top result.tail rows.now.numbers.now list.new.flips list.new.components list.new.bounds }
+    ensures made { Differenced rows.now result list.new.flips list.new.components list.new.bounds }
     ensures only { list.new ≡ record list.old { flips = list.new.flips; components = list.new.components; bounds = list.new.bounds } }
 {
     let mut members = Members {

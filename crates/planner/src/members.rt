@@ -5,11 +5,11 @@
 
 ghost use Rattle.std.specs.Prelude.{◌≡◌, [], ◌+◌, ◌-◌, ◌≤◌, ◌<◌, length, get_or};
 ghost use Rattle.rank1.specs.Axes.{flip};
-ghost use Rattle.rank1.specs.Index.{rows_of, row_count};
+ghost use Rattle.rank1.specs.Index.{rows_of};
 ghost use Rattle.rank1.specs.Named.{plan_number};
 ghost use Rattle.planner.specs.Sizes.{axes, most_members};
 ghost use Rattle.planner.specs.Lists.{rows_in, ValidRows};
-ghost use Rattle.planner.specs.Members.{SmallRow, Pushed, Gathering, MembersStay, Doubles, Doubled, Mirroring};
+ghost use Rattle.planner.specs.Members.{SmallRow, Pushed, Gathering, MembersStay, Doubles, Doubled, Mirroring, RowMembers};
 
 use crate::flips::flip_row;
 use crate::list::Rows;
@@ -19,6 +19,8 @@ use rank1::Plan;
 
 // The members that are made: `count` rows, one behind the other, beside each the number of the row of the list that it belongs to, its
 // owner; and whether these are all members.
+// kept: the rows and their owners stand in runs of their own, since no heap is asked for a `Vec` of both, and pairs are made of these rows as of the list's.
+// `whole` is no sign of whether there are members: those that have room are paired either way, so an Option does not say it.
 #[derive(Drop)]
 pub(crate) struct Members {
     pub(crate) rows: [i16; MOST_MEMBERS * AXES],
@@ -36,6 +38,7 @@ impl Members {
         let at = self.count * row.len();
         self.rows[at..at + row.len()].copy_from_slice(row);
         self.owners[self.count] = owner;
+        // kept: this is the struct's own count of its members, and no loop's counter.
         self.count += 1;
     }
 
@@ -56,6 +59,7 @@ impl Members {
         requires { Doubles d from axis self.old }
         ensures { Doubled d from (self.old.count - from) axis owner self.old self.new }
     {
+        // kept: the member that is read and the one that is written stand in one table, so that none can be lent while it grows.
         for i in from..self.count {
             self.push_flipped(d, i, axis, owner);
         }
@@ -91,22 +95,21 @@ impl Members {
         }
     }
 
-    // The members of row i, behind those of the rows before it.
-    fn add_mirrors(&mut self, rows: &Rows, span: usize, i: usize)
-        requires valid_rows { ValidRows rows.now × (i < row_count rows.now.d rows.now.numbers.now) × (span ≤ rows.now.d) }
-        requires gathering { Gathering (plan_number rows.now.plan) rows.now.d (rows_of rows.now.d i rows.now.numbers.now) self.old }
-        ensures { Gathering (plan_number rows.now.plan) rows.now.d (rows_of rows.now.d (i + 1) rows.now.numbers.now) self.new }
+    // The members of a row, behind those that are there; the number of the row is their owner.
+    fn add_mirrors(&mut self, plan: Plan, row: &[i16], span: usize, owner: u16)
+        requires small_row { (length row.now ≤ axes) × SmallRow row.now × (span ≤ length row.now) }
+        requires few { self.old.count ≤ most_members }
+        ensures { MembersStay (length row.now) self.old.count self.old self.new × RowMembers (plan_number plan) (length row.now) self.old.count owner row.now self.new }
     {
         let from = self.count;
         if from == MOST_MEMBERS {
             self.whole = false;
             return;
         }
-        let row = rows.row(i);
-        self.push(row, i as u16);
-        match rows.plan {
+        self.push(row, owner);
+        match plan {
             Plan::Integration | Plan::Fourier => {}
-            Plan::A | Plan::B | Plan::C => self.add_signs(row, span, from, i as u16),
+            Plan::A | Plan::B | Plan::C => self.add_signs(row, span, from, owner),
         }
     }
 
@@ -117,8 +120,9 @@ impl Members {
     {
         self.count = 0;
         self.whole = true;
-        for i in 0..rows.count() {
-            self.add_mirrors(rows, span, i);
+        for (i, row) in rows.each().enumerate() {
+            // kept: a list has at most 512 rows; `try_from` would have an `Err` that never comes.
+            self.add_mirrors(rows.plan, row, span, i as u16);
         }
     }
 }

@@ -7,68 +7,50 @@ ghost use Rattle.rank1.specs.Tally.{recount, least_modulus};
 ghost use Rattle.rank1.specs.Refusal.{least_refusal};
 ghost use Rattle.planner.specs.Sizes.{largest_modulus};
 ghost use Rattle.planner.specs.Lists.{rows_in};
-ghost use Rattle.planner.specs.Stage.{rule_of, rule_of_task, TabledTask, Roomy, Ascended, PlanBetween, Searchable};
+ghost use Rattle.planner.specs.Stage.{rule_of, Tabled, Ascended, PlanBetween, Searchable};
 
 use crate::axes::set_swaps;
 use crate::levels::set_levels;
 use crate::list::Rows;
-use crate::listing::set_differences;
-use crate::rounds::{Task, gentlest_vector};
+use crate::listing::{Task, set_differences};
+use crate::rounds::gentlest_vector;
 use crate::sizes::{AXES, LARGEST_MODULUS, LASTS, LEVEL_ROOM, PRODUCT_ROOM, ROOM, SOLUTION_ROOM};
 use crate::tables::{ListTables, ModulusTables, Work};
 use lists::least_modulus;
 use rank1::{Plan, Refusal, Tally};
 
-// Runs the moduli from low to high: the first that does not fail, with its gentlest vector in `best`.
-fn first_modulus(
-    task: &Task,
-    low: u16,
-    high: u16,
-    modulus: &mut ModulusTables,
-    z: &mut [u16],
-    work: &mut Work,
-    best: &mut [u16],
-) -> Option<u16>
-    requires tabled { TabledTask task.now }
-    requires le_low { (1 ≤ low) × (high ≤ largest_modulus) × (length best.old ≡ task.now.rows.d) × Roomy task.now.rows.d z.old work.old }
-    ensures { Ascended (rule_of_task task.now) task.now.rows.d low high best.new result }
+// Runs the moduli from low to high: the first that does not fail, with its gentlest vector in `best`. The tables of a modulus and the
+// work are made here, once for all.
+fn first_modulus(task: &Task, low: u16, high: u16, best: &mut [u16]) -> Option<u16>
+    requires tabled { Tabled task.now }
+    requires le_low { (1 ≤ low) × (high ≤ largest_modulus) × (length best.old ≡ task.now.rows.d) }
+    ensures { Ascended (rule_of task.now.rows) task.now.rows.d low high best.new result }
 {
-    // kept: a turn writes the tables, the vector and the best one through lent places, so a closure for `find` is no plainer.
+    let mut modulus = ModulusTables {
+        solutions: [0; SOLUTION_ROOM],
+        starts: [0; LASTS],
+        steps: [None; LASTS],
+    };
+    let mut work = Work {
+        sums: [0; AXES * ROOM],
+        products: [0; PRODUCT_ROOM],
+        struck: [false; AXES * LARGEST_MODULUS + 1],
+        owners: [0; LARGEST_MODULUS],
+    };
+    // kept: a turn writes the tables and the best vector through lent places, so a closure for `find` is no plainer.
     for n in low..=high {
-        if gentlest_vector(task, n, modulus, z, work, best) {
+        if gentlest_vector(task, n, &mut modulus, &mut work, best) {
             return Some(n);
         }
     }
     None
 }
 
-// The same with tables of its own for the moduli and the work.
-fn run_moduli(task: &Task, low: u16, high: u16, best: &mut [u16]) -> Option<u16>
-    requires tabled { TabledTask task.now }
-    requires le_low { (1 ≤ low) × (high ≤ largest_modulus) × (length best.old ≡ task.now.rows.d) }
-    ensures { Ascended (rule_of_task task.now) task.now.rows.d low high best.new result }
-{
-    let mut modulus = ModulusTables {
-        solutions: [0; SOLUTION_ROOM],
-        starts: [0; LASTS],
-        steps: [0; LASTS],
-    };
-    let mut work = Work {
-        sums: [0; AXES * ROOM],
-        products: [0; PRODUCT_ROOM],
-        struck: [0; AXES * LARGEST_MODULUS + 1],
-        owners: [0; LARGEST_MODULUS],
-    };
-    let mut z = [0u16; AXES];
-    let d = task.rows.d;
-    first_modulus(task, low, high, &mut modulus, &mut z[..d], &mut work, best)
-}
-
 // The first plan among the moduli from low to high for a valid list, whose tables are made here. The vector is built in an array of
 // its own, so that the lent places are written only where there is a plan.
 fn search_list(rows: &Rows, low: u16, high: u16, z: &mut [u16]) -> Result<u16, Refusal>
     requires { Searchable rows.now low high z.old }
-    ensures { PlanBetween (rule_of (plan_number rows.now.plan) rows.now.d rows.now.numbers.now) rows.now.d low high z.old z.new result }
+    ensures { PlanBetween (rule_of rows.now) rows.now.d low high z.old z.new result }
 {
     let mut list = ListTables {
         levels: [0; (AXES + 1) * LEVEL_ROOM],
@@ -87,7 +69,7 @@ fn search_list(rows: &Rows, low: u16, high: u16, z: &mut [u16]) -> Result<u16, R
         list: &list,
         listing,
     };
-    let found = run_moduli(&task, low, high, &mut x[..rows.d]);
+    let found = first_modulus(&task, low, high, &mut x[..rows.d]);
     let n = found.ok_or(Refusal::NoPlan)?;
     z.copy_from_slice(&x[..rows.d]);
     Ok(n)
@@ -98,10 +80,7 @@ fn start_of(plan: Plan, tally: Tally, low: u16) -> u16
     requires { least_refusal (plan_number plan) tally ≡ 0 }
     ensures { result ≡ max low (least_modulus (plan_number plan) tally) }
 {
-    match least_modulus(u8::from(plan), tally) {
-        Ok(least) => low.max(least),
-        Err(_) => low,
-    }
+    least_modulus(u8::from(plan), tally).map_or(low, |least| low.max(least))
 }
 
 // The first plan among the moduli from low to high for a valid list and its record.
@@ -113,7 +92,7 @@ pub(crate) fn first_plan(
     z: &mut [u16],
 ) -> Result<u16, Refusal>
     requires { Searchable rows.now low high z.old × (tally ≡ recount (plan_number rows.now.plan) rows.now.d (rows_in rows.now)) }
-    ensures { PlanBetween (rule_of (plan_number rows.now.plan) rows.now.d rows.now.numbers.now) rows.now.d low high z.old z.new result }
+    ensures { PlanBetween (rule_of rows.now) rows.now.d low high z.old z.new result }
 {
     let start = start_of(rows.plan, tally, low);
     if high < start {

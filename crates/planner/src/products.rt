@@ -1,5 +1,6 @@
 // Product tables: for each axis the residues of the products of z's component with every component that a row or a difference can have. So the
 // residue of a row is a sum of entries and one division, with no product and no sign in it.
+// kept: `set_axis`, `prepare` and `prepare_rows` make the table that a `Lattice` then lends, so n, z and the places stand one by one.
 
 ghost use Rattle.std.specs.Prelude.{◌≡◌, ℕ, ◌+◌, ◌-◌, ◌*◌, ◌%◌, ◌≤◌, ◌<◌, nat_abs, length, get_or, take, drop};
 ghost use Rattle.rank1.specs.Named.{plan_number};
@@ -19,17 +20,15 @@ pub(crate) fn place_of(x: i16) -> usize
     (x + MIDDLE as i16) as usize
 }
 
-// The largest size of a component.
+// The largest size of a component; no components have 0. kept: a chain of the library's, of which it is proved once here that it covers the rows.
 pub(crate) fn largest(rows: &[i16]) -> usize
     requires { Covered largest_size rows.now }
     ensures { Covered result rows.now }
 {
-    // kept: tried as a chain that ends in `max`; the check found no proof of it alone.
-    let mut top = 0;
-    for x in rows {
-        top = top.max(usize::from(x.unsigned_abs()));
-    }
-    top
+    rows.iter()
+        .map(|x| usize::from(x.unsigned_abs()))
+        .max()
+        .unwrap_or(0)
 }
 
 // The residue of the negative of a number with residue p.
@@ -49,7 +48,6 @@ pub(crate) fn sum_of(p: u16, q: u16, n: u16) -> u16
     if s < n { s } else { s - n }
 }
 
-// kept: the three functions below make the table that a `Lattice` then lends, so they come before there is one.
 // Sets the products of v on one axis, for the numbers of size at most top.
 pub(crate) fn set_axis(products: &mut [u16], axis: usize, v: u16, n: u16, top: usize)
     requires { (axis < axes) × (length products.old ≡ product_room) × (v < n) × ValidModulus n × (top ≤ largest_size) }

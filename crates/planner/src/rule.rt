@@ -2,17 +2,17 @@
 // search: the lattice's vector may be shorter than the rows, which then are 0 from its length on. Document 01's form: nested loops over
 // rows and mirrors, left by a label at the first clash.
 
-ghost use Rattle.std.specs.Prelude.{◌≡◌, ◌≤◌, ◌<◌, ℤ, pos, map, length};
+ghost use Rattle.std.specs.Prelude.{◌≡◌, ◌≢◌, ◌≤◌, ◌<◌, ℤ, pos, map, length};
 ghost use mathlib.Core.List.{List, Memᴰ};
 ghost use Rattle.rank1.specs.Tests.{Decides};
-ghost use Rattle.rank1.specs.Index.{index_list, row_count};
+ghost use Rattle.rank1.specs.Index.{index_list, row_count, zero_row};
 ghost use Rattle.rank1.specs.Named.{plan_number};
 ghost use Rattle.rank1.specs.Rule.{Integrates, PlanA, Admissible};
 ghost use Rattle.rank1.specs.RuleTest.{admissible};
 ghost use Rattle.rank1.specs.Valid.{Nonnegative, ValidCall};
 ghost use Rattle.planner.specs.Sizes.{most_rows, largest_modulus};
 ghost use Rattle.planner.specs.Inner.{Ready, Owners, Recorded, Clear, residue_of, clash};
-ghost use Rattle.planner.specs.Lists.{rows_in, ReadyRows, Unsigned, Keeps};
+ghost use Rattle.planner.specs.Lists.{rows_in, ReadyRow, ReadyRows, Unsigned, Keeps, residue_by};
 
 use crate::lattice::Lattice;
 use crate::list::Rows;
@@ -29,20 +29,20 @@ pub(crate) fn clear(table: &mut [u16], n: usize)
     table[..n].fill(0);
 }
 
+// Whether a row is the zero row or has a residue other than 0.
+fn row_integrates(row: &[i16], lattice: &Lattice) -> bool
+    requires { ReadyRow lattice.now row.now }
+    ensures { Decides result (row.now ≢ zero_row (length row.now) → residue_by lattice.now row.now ≢ 0) }
+{
+    nonzero_mask(row) == 0 || lattice.residue(row) != 0
+}
+
 // Integration: no row other than the zero row has residue 0.
 fn integrates(rows: &Rows, lattice: &Lattice) -> bool
     requires { ReadyRows rows.now lattice.now }
     ensures { Decides result (Integrates (rows_in rows.now) lattice.now.n (map pos lattice.now.z.now)) }
 {
-    for i in 0..rows.count() {
-        let row = rows.row(i);
-        if nonzero_mask(row) != 0 {
-            if lattice.residue(row) == 0 {
-                return false;
-            }
-        }
-    }
-    true
+    rows.each().all(|row| row_integrates(row, lattice))
 }
 
 // Records the owner of each row's residue: one more than the row's number. False at the first clash of two rows.
@@ -52,8 +52,8 @@ fn record_owners(rows: &Rows, lattice: &Lattice, owners: &mut [u16; LARGEST_MODU
     ensures { Recorded lattice.now.n lattice.now.z.now (rows_in rows.now) owners.new result }
 {
     clear(owners, usize::from(lattice.n));
-    for i in 0..rows.count() {
-        let r = usize::from(lattice.residue(rows.row(i)));
+    for (i, row) in rows.each().enumerate() {
+        let r = usize::from(lattice.residue(row));
         if owners[r] != 0 {
             return false;
         }
@@ -73,8 +73,8 @@ fn all_mirrors_apart(rows: &Rows, lattice: &Lattice, taken: &mut [u16; LARGEST_M
     clear(taken, usize::from(lattice.n));
     let mut residues = [0u16; MOST_MIRRORS];
     let mut apart = true;
-    'rows: for i in 0..rows.count() {
-        for r in lattice.mirror_residues(rows.row(i), &mut residues) {
+    'rows: for row in rows.each() {
+        for r in lattice.mirror_residues(row, &mut residues) {
             let r = usize::from(*r);
             if taken[r] != 0 {
                 apart = false;
@@ -97,8 +97,8 @@ fn mirrors_apart(rows: &Rows, lattice: &Lattice, owners: &[u16; LARGEST_MODULUS]
 {
     let mut residues = [0u16; MOST_MIRRORS];
     let mut apart = true;
-    'rows: for i in 0..rows.count() {
-        for r in &lattice.mirror_residues(rows.row(i), &mut residues)[1..] {
+    'rows: for (i, row) in rows.each().enumerate() {
+        for r in &lattice.mirror_residues(row, &mut residues)[1..] {
             let owner = usize::from(owners[usize::from(*r)]);
             if clashes(rows.plan, i, owner) {
                 apart = false;
@@ -110,6 +110,7 @@ fn mirrors_apart(rows: &Rows, lattice: &Lattice, owners: &[u16; LARGEST_MODULUS]
 }
 
 // Whether the owner of a residue forbids it to a mirror of row i.
+// kept: 0 is the table's for no owner (`record_owners`).
 fn clashes(plan: Plan, i: usize, owner: usize) -> bool
     requires { i < most_rows }
     ensures { result ≡ clash (plan_number plan) i owner }

@@ -16,33 +16,29 @@
 // of a component are tried, in the first round of a modulus (rounds.rt); the other prunes hold with fewer values too.
 
 ghost use Rattle.std.specs.Prelude.{◌≡◌, true, false, ◌+◌, ◌*◌, ◌≤◌, ◌<◌, length};
-ghost use Rattle.rank1.specs.Named.{plan_number};
 ghost use Rattle.planner.specs.Sizes.{axes, largest_modulus};
-ghost use Rattle.planner.specs.Stage.{Listed, Prefixed, EndsHold, Raised, Lowest, ValueEnd, NextFree, CannotLead, Siftable, Sifted, Summable, SumsAdded, Triable, Tried, below, rule_of, Stage, KeptBefore, Completed};
+ghost use Rattle.planner.specs.Stage.{Listed, Prefixed, EndsHold, Raised, Lowest, ValueEnd, NextFree, CannotLead, Siftable, Sifted, Summable, SumsAdded, Triable, Tried, below, Stage, KeptBefore, CompletedOf};
 
 use crate::lattice::Lattice;
 use crate::levels::level_at;
 use crate::list::Rows;
+use crate::listing::Task;
 use crate::products::set_axis;
 use crate::rule::keeps_rule;
 use crate::sieve::{set_sums, sieve, sieve_first};
 use crate::sizes::{AXES, LARGEST_MODULUS, LASTS};
-use crate::tables::{ListTables, ModulusTables, Work};
-use rank1::Plan;
+use crate::tables::{ModulusTables, Work};
 
-// What a search at one modulus is about; it goes down the recursion by value: the plan, the number of axes, the modulus, how many
-// values of a component are tried, the value at which the first component starts, the largest size of a component of a row or of a
-// difference, the largest last component of a difference, and whether every difference is struck (then the rows that end early need no
-// test of their own).
+// What a search at one modulus is about; it is lent down the recursion: the list with its tables, the tables of the modulus, the modulus,
+// how many values of a component are tried, the value at which the first component starts, and whether every difference is struck (then
+// the rows that end early need no test of their own).
 #[derive(Clone, Copy)]
-pub(crate) struct Search {
-    pub(crate) plan: Plan,
-    pub(crate) d: usize,
+pub(crate) struct Search<'a> {
+    pub(crate) task: Task<'a>,
+    pub(crate) modulus: &'a ModulusTables,
     pub(crate) n: u16,
     pub(crate) values: u16,
     pub(crate) start: u16,
-    pub(crate) top: usize,
-    pub(crate) tail: usize,
     pub(crate) sieved: bool,
 }
 
@@ -50,54 +46,57 @@ pub(crate) struct Search {
 fn raised(low: u16, mark: bool, x: u16) -> u16
     ensures { Raised low mark x result }
 {
-    if mark & (low < x) { x } else { low }
+    if mark { low.max(x) } else { low }
 }
 
-impl Search {
+// The first value from `from` on that is not struck, where there is one before the end.
+fn next_free(base: usize, from: u16, end: u16, struck: &[bool]) -> Option<u16>
+    requires { (base + end ≤ length struck.now) × (base ≤ axes * largest_modulus) }
+    ensures { NextFree base from end struck.now result }
+{
+    (from..end).find(|v| !struck[base + usize::from(*v)])
+}
+
+impl<'a> Search<'a> {
     // The same search with the values below a bound, and a start for the first component.
-    pub(crate) fn below(self, bound: u16, start: u16) -> Search
-        ensures { result ≡ below bound start self }
+    pub(crate) fn below(&self, bound: u16, start: u16) -> Search<'a>
+        ensures { result ≡ below bound start self.now }
     {
         Search {
             values: bound,
             start,
-            ..self
+            ..*self
         }
     }
 
     // The lowest value of component at. The first component starts where it is told to; a later one is not below that of an earlier
     // axis with which its axis can change places.
-    fn lowest(self, at: usize, swaps: &[bool], z: &[u16]) -> u16
-        requires { (at < axes) × (length swaps.now ≡ axes * axes) × (at ≤ length z.now) }
-        ensures { Lowest self.start swaps.now at z.now result }
+    fn lowest(&self, at: usize, z: &[u16]) -> u16
+        requires { (at < axes) × (at ≤ length z.now) }
+        ensures { Lowest self.now at z.now result }
     {
         let mut low = 0;
         // kept: i is an axis, with a place in the marks by both axes and another in z.
         for i in 0..at {
-            low = raised(low, swaps[i * AXES + at], z[i]);
+            low = raised(low, self.task.list.swaps[i * AXES + at], z[i]);
         }
         if at == 0 { self.start } else { low }
     }
 
     // Where the values of component at end: behind n / 2 where the sign of its axis can change.
-    fn value_end(self, at: usize, flips: &[bool]) -> u16
-        requires { at < length flips.now }
-        ensures { ValueEnd self.n self.values at flips.now result }
+    fn value_end(&self, at: usize) -> u16
+        requires { at < axes }
+        ensures { ValueEnd self.now at result }
     {
-        if !flips[at] {
+        if !self.task.list.flips[at] {
             return self.values;
         }
-        let half = self.n / 2;
-        if half < self.values {
-            half + 1
-        } else {
-            self.values
-        }
+        self.values.min(self.n / 2 + 1)
     }
 
     // Whether scaling rules v out as a first component: it neither is 0 nor divides n. It holds only where n values are tried.
-    fn cannot_lead(self, at: usize, v: u16) -> bool
-        ensures { result ≡ true → CannotLead self at v }
+    fn cannot_lead(&self, at: usize, v: u16) -> bool
+        ensures { result ≡ true → CannotLead self.now at v }
     {
         if at != 0 {
             return false;
@@ -110,164 +109,120 @@ impl Search {
         }
         self.n % v != 0
     }
-}
 
-// The first value from `from` on that is not struck; the end where there is none.
-// kept: without an Option, which misses the bar of speed that this form meets: on the slowest list of bench/ it takes 1.5 to 1.6 times
-// the peer's time, this form 1.3 to 1.4 (at most 1.5). An index, since the value is what is answered.
-fn next_free(base: usize, from: u16, end: u16, struck: &[u8]) -> u16
-    requires { (base + end ≤ length struck.now) × (base ≤ axes * largest_modulus) }
-    ensures { NextFree base from end struck.now result }
-{
-    for v in from..end {
-        if struck[base + usize::from(v)] == 0 {
-            return v;
+    // The rule on the rows that are 0 from axis at on; the sieve has done it where every difference is struck. False where it fails: no
+    // vector of whole numbers that begins so meets the rule.
+    fn ends_hold(&self, at: usize, z: &[u16], work: &mut Work) -> bool
+        requires listed { Listed self.now.task }
+        requires prefixed { Prefixed self.now at z.now work.old.products }
+        ensures holds { EndsHold self.now at z.now result }
+        ensures only { work.new ≡ record work.old { owners = work.new.owners } }
+    {
+        if self.sieved {
+            return true;
         }
-    }
-    end
-}
-
-// The rule on the rows that are 0 from axis at on; the sieve has done it where every difference is struck. False where it fails: no
-// vector of whole numbers that begins so meets the rule.
-fn ends_hold(
-    s: Search,
-    at: usize,
-    rows: &[i16],
-    list: &ListTables,
-    z: &[u16],
-    work: &mut Work,
-) -> bool
-    requires listed { Listed (plan_number s.plan) s.d s.top rows.now list.now }
-    requires prefixed { Prefixed s at z.now work.old.products work.old.owners }
-    ensures holds { EndsHold s at rows.now z.now result }
-    ensures only { work.new ≡ record work.old { owners = work.new.owners } }
-    ensures owner_size { length work.new.owners ≡ length work.old.owners }
-{
-    if s.sieved {
-        return true;
-    }
-    let level = level_at(at, list);
-    let ending = Rows {
-        plan: s.plan,
-        d: s.d,
-        numbers: level,
-    };
-    let lattice = Lattice {
-        n: s.n,
-        z: &z[..at],
-        products: &work.products,
-    };
-    keeps_rule(&ending, &lattice, &mut work.owners)
-}
-
-// Marks the values of component at that a difference forbids.
-fn sieve_at(s: Search, at: usize, list: &ListTables, modulus: &ModulusTables, work: &mut Work)
-    requires { Siftable s.n at s.tail list.now modulus.now work.old }
-    ensures { Sifted s.n at list.now work.old work.new }
-{
-    if at == 0 {
-        let end = usize::from(s.n);
-        sieve_first(
-            s.n,
-            s.tail,
-            &list.bounds,
-            &modulus.steps,
-            &mut work.struck[..end],
-        );
-        return;
-    }
-    sieve(s.n, at - 1, list, modulus, work);
-}
-
-// Sets section at of the sums, behind the first axis: the parts before axis at of the differences that end behind it. It is done only
-// where a value of component at is left, so that a prefix that ends here costs no pass over the later differences.
-fn add_sums(n: u16, d: usize, at: usize, list: &ListTables, work: &mut Work)
-    requires { Summable n d at list.now work.old }
-    ensures { SumsAdded n d at list.now work.old work.new }
-{
-    if at == 0 {
-        return;
-    }
-    if at + 1 < d {
-        let from = usize::from(list.bounds[(at + 1) * LASTS]);
-        let to = usize::from(list.bounds[d * LASTS]);
-        set_sums(
-            n,
-            at - 1,
-            from,
-            to,
-            &list.components,
-            &work.products,
-            &mut work.sums,
-        );
-    }
-}
-
-// Sets component at to v. False where no first vector begins so: v cannot lead, or the rule fails on the rows that end there.
-fn try_component(
-    s: Search,
-    at: usize,
-    v: u16,
-    rows: &[i16],
-    list: &ListTables,
-    z: &mut [u16],
-    work: &mut Work,
-) -> bool
-    requires { Triable s at v rows.now list.now z.old work.old }
-    ensures { Tried s at v rows.now z.old work.old z.new work.new result }
-{
-    z[at] = v;
-    if s.cannot_lead(at, v) {
-        return false;
-    }
-    set_axis(&mut work.products, at, v, s.n, s.top);
-    ends_hold(s, at + 1, rows, list, z, work)
-}
-
-// Completes z from component at on: the values that are left are tried from the lowest up. The vector is checked whole.
-pub(crate) fn complete(
-    s: Search,
-    at: usize,
-    rows: &[i16],
-    list: &ListTables,
-    modulus: &ModulusTables,
-    z: &mut [u16],
-    work: &mut Work,
-) -> bool
-    requires { Stage s rows.now list.now modulus.now at z.old work.old }
-    ensures completed { Completed (rule_of (plan_number s.plan) s.d rows.now) s.d s.n s.values at z.old z.new result }
-    ensures kept_before { KeptBefore at z.old work.old z.new work.new }
-{
-    if at == s.d {
-        let rows = Rows {
-            plan: s.plan,
-            d: s.d,
-            numbers: rows,
+        let ending = Rows {
+            numbers: level_at(at, self.task.list),
+            ..self.task.rows
         };
         let lattice = Lattice {
-            n: s.n,
-            z,
+            n: self.n,
+            z: &z[..at],
             products: &work.products,
         };
-        return keeps_rule(&rows, &lattice, &mut work.owners);
+        keeps_rule(&ending, &lattice, &mut work.owners)
     }
-    sieve_at(s, at, list, modulus, work);
-    let base = at * LARGEST_MODULUS;
-    let low = s.lowest(at, &list.swaps, z);
-    let end = s.value_end(at, &list.flips);
-    let mut v = next_free(base, low, end, &work.struck);
-    if end <= v {
-        return false;
+
+    // Marks the values of component at that a difference forbids.
+    fn sieve_at(&self, at: usize, work: &mut Work)
+        requires { Siftable self.now at work.old }
+        ensures { Sifted self.now at work.old work.new }
+    {
+        let list = self.task.list;
+        if at == 0 {
+            let end = usize::from(self.n);
+            sieve_first(
+                self.n,
+                self.task.listing.tail,
+                &list.bounds,
+                &self.modulus.steps,
+                &mut work.struck[..end],
+            );
+            return;
+        }
+        sieve(self.n, at - 1, list, self.modulus, work);
     }
-    add_sums(s.n, s.d, at, list, work);
-    // kept: a turn goes on to the next value that is not struck; a `for` over all values would ask for each mark in the body.
-    while v < end {
-        if try_component(s, at, v, rows, list, z, work) {
-            if complete(s, at + 1, rows, list, modulus, z, work) {
+
+    // Sets section at of the sums, behind the first axis: the parts before axis at of the differences that end behind it. It is done only
+    // where a value of component at is left, so that a prefix that ends here costs no pass over the later differences.
+    fn add_sums(&self, at: usize, work: &mut Work)
+        requires { Summable self.now at work.old }
+        ensures { SumsAdded self.now at work.old work.new }
+    {
+        if at == 0 {
+            return;
+        }
+        let d = self.task.rows.d;
+        if at + 1 < d {
+            let list = self.task.list;
+            let from = usize::from(list.bounds[(at + 1) * LASTS]);
+            let to = usize::from(list.bounds[d * LASTS]);
+            set_sums(
+                self.n,
+                at - 1,
+                from,
+                to,
+                &list.components,
+                &work.products,
+                &mut work.sums,
+            );
+        }
+    }
+
+    // Sets component at to v. False where no first vector begins so: v cannot lead, or the rule fails on the rows that end there.
+    fn try_component(&self, at: usize, v: u16, z: &mut [u16], work: &mut Work) -> bool
+        requires { Triable self.now at v z.old work.old }
+        ensures { Tried self.now at v z.old work.old z.new work.new result }
+    {
+        z[at] = v;
+        if self.cannot_lead(at, v) {
+            return false;
+        }
+        set_axis(&mut work.products, at, v, self.n, self.task.listing.top);
+        self.ends_hold(at + 1, z, work)
+    }
+
+    // Completes z from component at on: the values that are left are tried from the lowest up. The vector is checked whole.
+    pub(crate) fn complete(&self, at: usize, z: &mut [u16], work: &mut Work) -> bool
+        requires { Stage self.now at z.old work.old }
+        ensures completed { CompletedOf self.now at z.old z.new result }
+        ensures kept_before { KeptBefore at z.old work.old z.new work.new }
+    {
+        if at == self.task.rows.d {
+            let lattice = Lattice {
+                n: self.n,
+                z,
+                products: &work.products,
+            };
+            return keeps_rule(&self.task.rows, &lattice, &mut work.owners);
+        }
+        self.sieve_at(at, work);
+        let base = at * LARGEST_MODULUS;
+        let low = self.lowest(at, z);
+        let end = self.value_end(at);
+        let Some(first) = next_free(base, low, end, &work.struck) else {
+            return false;
+        };
+        self.add_sums(at, work);
+        // kept: v is the value that is tried, with its mark behind those of the axes before; what is called in a turn writes the marks.
+        for v in first..end {
+            if work.struck[base + usize::from(v)] {
+                continue;
+            }
+            if self.try_component(at, v, z, work) && self.complete(at + 1, z, work) {
                 return true;
             }
         }
-        v = next_free(base, v + 1, end, &work.struck);
+        false
     }
-    false
 }

@@ -1,10 +1,11 @@
 // The sieve: which values of a component the differences that end at its axis rule out, all at once. The contracts are about
 // soundness: a mark has a reason. That none is missing is speed.
 
-ghost use Rattle.std.specs.Prelude.{◌≡◌, MatchOption, ℕ, suc, ◌+◌, ◌*◌, ◌%◌, ◌≤◌, ◌<◌, length, get_or};
+ghost use Rattle.std.specs.Prelude.{◌≡◌, MatchOption, ℕ, suc, ◌+◌, ◌*◌, ◌%◌, ◌≤◌, ◌<◌, nat_abs, length, get_or};
 ghost use Rattle.rank1.specs.Valid.{ValidModulus};
-ghost use Rattle.planner.specs.Sieve.{Markable, Marking, SolutionsSet, SolutionsOf, Tabulable, TablesTo, Run, part, Strikable, Struck, Readable, SumsSet, RunAsked, RunStart, Sievable, Barred, AllBarred, Sieved, FirstSievable, FirstBarred, AllFirstBarred};
-ghost use Rattle.planner.specs.Sizes.{axes, largest_modulus, room, lasts};
+ghost use Rattle.planner.specs.Sieve.{Markable, Marking, SolutionsSet, SolutionsOf, Tabulable, TablesTo, Strikable, Struck, Readable, SumsSet, RunAsked, RunStart, Sievable, Barred, AllBarred, Sieved, FirstSievable, FirstBarred, AllFirstBarred};
+ghost use Rattle.planner.specs.Inner.{place};
+ghost use Rattle.planner.specs.Sizes.{axes, largest_modulus, largest_size, places, room, lasts};
 
 use crate::products::{negative, place_of, sum_of};
 use crate::runs::occurs;
@@ -28,7 +29,8 @@ pub(crate) fn set_sums(
     let here = at * ROOM;
     let next = here + ROOM;
     let axis = at * PLACES;
-    // kept: e is read in two slices, and what is read and what is written are parts of one array.
+    // kept: an index. Tried as a `zip` with `iter_mut` over the parts of sums: after a `zip` of `iter_mut` the library says nothing of what was
+    // written, so the proof does not close.
     for e in from..to {
         let place = axis + place_of(components[here + e]);
         sums[next + e] = sum_of(sums[here + e], products[place], n);
@@ -36,6 +38,8 @@ pub(crate) fn set_sums(
 }
 
 // What is fixed before the axis that is sieved: the modulus, the axis before it, and the sums and products up to there.
+// kept: without the tables of the list and of the modulus. Tried with them, and the functions that take them as methods: it proves, and on five axes
+// with 2 rows under plan A `plan` then takes 1.63 times the peer's time, with this form 1.46 (at most 1.5).
 #[derive(Clone, Copy)]
 struct Prefix<'a> {
     n: u16,
@@ -46,6 +50,8 @@ struct Prefix<'a> {
 
 // The differences of a run without their last components: their sums before the axis before last, their components on that axis, and
 // its products.
+// kept: without the modulus, the last component and its solutions. Tried with them, and the functions below as methods: it proves, and `plan` takes
+// no less time than as said at `Prefix`.
 #[derive(Clone, Copy)]
 struct RunParts<'a> {
     sums: &'a [u16],
@@ -53,53 +59,53 @@ struct RunParts<'a> {
     products: &'a [u16],
 }
 
-// The residue of the part of difference i before the axis at which the run ends.
-fn part_of(n: u16, run: &RunParts, i: usize) -> u16
-    requires { Run n run.now.sums.now run.now.components.now run.now.products.now × (i < length run.now.sums.now) }
-    ensures { (result ≡ part n run.now.sums.now run.now.components.now run.now.products.now i) × (result < n) }
+// The residue of the part of a difference before the axis at which its run ends, from its sum and its component x on the axis before.
+fn part_of(n: u16, run: &RunParts, sum: u16, x: i16) -> u16
+    requires modulus { ValidModulus n × (length run.now.products.now ≡ places) }
+    requires small { (nat_abs x ≤ largest_size) × (sum < n) × (get_or run.now.products.now (place x) 0 < n) }
+    ensures { (result ≡ (sum + get_or run.now.products.now (place x) 0) % n) × (result < n) }
 {
-    sum_of(run.sums[i], run.products[place_of(run.components[i])], n)
+    sum_of(sum, run.products[place_of(x)], n)
 }
 
-// Marks v and what is a number of steps behind it, below n (a `while`: by `step_by` the proof closes, and the speed is not settled yet).
-fn mark_steps(n: u16, v: u16, step: u16, struck: &mut [u8])
+// Marks v and what is a number of steps behind it, below n.
+fn mark_steps(n: u16, v: u16, step: u16, struck: &mut [bool])
     requires { Markable n step struck.old }
     ensures { Marking v step struck.old struck.new }
 {
-    let mut w = v;
-    while w < n {
-        struck[usize::from(w)] = 1;
-        w += step;
+    for w in (v..n).step_by(usize::from(step)) {
+        struck[usize::from(w)] = true;
     }
 }
 
 // Strikes, for each difference of a run that ends with component t, all its solutions, which are one step apart.
-// kept: here and in the next function, an index, which reads two slices.
-fn strike_steps(n: u16, t: usize, step: u16, run: &RunParts, solutions: &[u16], struck: &mut [u8])
+// kept: i reads two slices. Tried as a `zip`, as in the next function: it proves, and takes 0.8 to 4.1 % more instructions on five of bench/'s slower
+// lists and more time on four (on three axes with 80 rows under plan C 1.28 times the peer's, where an index took 0.93).
+fn strike_steps(n: u16, t: usize, step: u16, run: &RunParts, solutions: &[u16], struck: &mut [bool])
     requires { Strikable n run.now.sums.now run.now.components.now run.now.products.now t step solutions.now struck.old }
     ensures { Struck n run.now.sums.now run.now.components.now run.now.products.now t struck.old struck.new }
 {
     for i in 0..run.sums.len() {
-        let c = part_of(n, run, i);
+        let c = part_of(n, run, run.sums[i], run.components[i]);
         mark_steps(n, solutions[usize::from(c)], step, struck);
     }
 }
 
 // Strikes, for each difference of a run that ends with component t, its one solution. There is no test: where a difference has
 // none, mark n is set, which stands for no value.
-fn strike_single(n: u16, t: usize, run: &RunParts, solutions: &[u16], struck: &mut [u8])
+fn strike_single(n: u16, t: usize, run: &RunParts, solutions: &[u16], struck: &mut [bool])
     requires { Strikable n run.now.sums.now run.now.components.now run.now.products.now t n solutions.now struck.old }
     ensures { Struck n run.now.sums.now run.now.components.now run.now.products.now t struck.old struck.new }
 {
-    for i in 0..run.sums.len() {
-        let c = part_of(n, run, i);
-        struck[usize::from(solutions[usize::from(c)])] = 1;
+    for (sum, x) in run.sums.iter().zip(run.components) {
+        let c = part_of(n, run, *sum, *x);
+        struck[usize::from(solutions[usize::from(c)])] = true;
     }
 }
 
 // Strikes all solutions of the differences of a run that ends with component t: one each where t has an inverse modulo n, else
 // none or some that are a step apart.
-fn strike(n: u16, t: usize, step: u16, run: &RunParts, solutions: &[u16], struck: &mut [u8])
+fn strike(n: u16, t: usize, step: u16, run: &RunParts, solutions: &[u16], struck: &mut [bool])
     requires { Strikable n run.now.sums.now run.now.components.now run.now.products.now t step solutions.now struck.old }
     ensures { Struck n run.now.sums.now run.now.components.now run.now.products.now t struck.old struck.new }
 {
@@ -125,7 +131,7 @@ fn strike_run(
     t: usize,
     list: &ListTables,
     modulus: &ModulusTables,
-    struck: &mut [u8],
+    struck: &mut [bool],
 )
     requires sievable { Sievable prefix.now.n prefix.now.before list.now prefix.now.products.now prefix.now.sums.now modulus.now }
     requires t_lt_lasts { (t < lasts) × (prefix.now.n < length struck.old) }
@@ -133,8 +139,7 @@ fn strike_run(
 {
     let n = prefix.n;
     let before = prefix.before;
-    let step = modulus.steps[t];
-    if step != 0 {
+    if let Some(step) = modulus.steps[t] {
         let begin = run_start(&list.bounds, before, t);
         let end = run_start(&list.bounds, before, t + 1);
         if begin < end {
@@ -157,23 +162,24 @@ fn next_run(at: usize, bound: usize) -> usize
     requires { at < axes * room }
     ensures { at < result }
 {
-    if at < bound { bound } else { at + 1 }
+    bound.max(at + 1)
 }
 
 // Sieves among the marks of the axis behind `before` alone: those that are left have been struck by one of its runs. The walk goes from
 // run to run: `at` is the place of a run's first difference among the numbers of axis `before`, and ROOM places on, among those of the
 // axis behind, stands its last component. Where the next run starts is looked up before this one is struck: the processor then need not
 // wait for it.
-fn strike_runs(prefix: &Prefix, list: &ListTables, modulus: &ModulusTables, struck: &mut [u8])
+fn strike_runs(prefix: &Prefix, list: &ListTables, modulus: &ModulusTables, struck: &mut [bool])
     requires sievable { Sievable prefix.now.n prefix.now.before list.now prefix.now.products.now prefix.now.sums.now modulus.now }
     requires struck_len { length struck.old ≡ suc prefix.now.n }
     ensures { AllBarred prefix.now.n prefix.now.before list.now prefix.now.products.now prefix.now.sums.now struck.new }
 {
-    struck.fill(0);
+    struck.fill(false);
     let before = prefix.before;
     let end = run_start(&list.bounds, before, LASTS);
     let mut at = run_start(&list.bounds, before, 0);
-    // kept: the walk goes on by a bound that is read in the tables, so there is no range of steps to pass over.
+    // kept: no range goes from run to run. Tried as a `for` over the last components from 1 to the largest, each asked for its run: it proves, and takes
+    // 17 % more instructions on five axes with 2 rows under plan A, where this form takes 1.45 times the peer's time (at most 1.5).
     while at < end {
         let t = usize::from(list.components[at + ROOM].unsigned_abs());
         let next = next_run(at, run_start(&list.bounds, before, t + 1));
@@ -183,25 +189,30 @@ fn strike_runs(prefix: &Prefix, list: &ListTables, modulus: &ModulusTables, stru
 }
 
 // Strikes at the first axis the multiples of the period of t, where a difference ends there with component t.
-fn strike_first(n: u16, t: usize, bounds: &[u16], steps: &[u16], struck: &mut [u8])
+fn strike_first(n: u16, t: usize, bounds: &[u16], steps: &[Option<u16>], struck: &mut [bool])
     requires { FirstSievable n t bounds.now steps.now struck.old }
     ensures { FirstBarred n bounds.now struck.old struck.new }
 {
-    let step = steps[t];
     if bounds[t] < bounds[t + 1] {
-        if step != 0 {
+        if let Some(step) = steps[t] {
             mark_steps(n, 0, step, struck);
         }
     }
 }
 
 // Sieves the first component: its marks are those of the values with which a difference that ends there has residue 0.
-pub(crate) fn sieve_first(n: u16, tail: usize, bounds: &[u16], steps: &[u16], marks: &mut [u8])
+pub(crate) fn sieve_first(
+    n: u16,
+    tail: usize,
+    bounds: &[u16],
+    steps: &[Option<u16>],
+    marks: &mut [bool],
+)
     requires { FirstSievable n tail bounds.now steps.now marks.old }
     ensures { AllFirstBarred n bounds.now marks.old marks.new }
 {
-    marks.fill(0);
-    for t in 1..tail + 1 {
+    marks.fill(false);
+    for t in 1..=tail {
         strike_first(n, t, bounds, steps, marks);
     }
 }
@@ -272,7 +283,7 @@ fn add_table(
         return None;
     }
     // kept: t is below LASTS, and try_from would hand back an error that never comes.
-    modulus.steps[t] = set_solutions(n, t as u16, &mut modulus.solutions[at..end]);
+    modulus.steps[t] = Some(set_solutions(n, t as u16, &mut modulus.solutions[at..end]));
     modulus.starts[t] = at;
     Some(end)
 }
@@ -289,9 +300,9 @@ pub(crate) fn set_modulus(
     requires { Tabulable n d tail }
     ensures { SolutionsOf n modulus.new }
 {
-    modulus.steps.fill(0);
+    modulus.steps.fill(None);
     let mut at = 0;
-    for t in 1..tail + 1 {
+    for t in 1..=tail {
         let Some(end) = add_table(n, d, t, at, list, modulus) else {
             return false;
         };

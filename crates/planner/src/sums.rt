@@ -8,11 +8,12 @@ ghost use Rattle.rank1.specs.Named.{plan_number};
 ghost use Rattle.rank1.specs.Sums.{in32, residue_map, spread_sums, gathers, gathered_terms};
 ghost use Rattle.planner.specs.Sizes.{most_mirrors};
 ghost use Rattle.planner.specs.Inner.{occurrences, Addable, divides, EntryOf};
-ghost use Rattle.planner.specs.Lists.{rows_in, ReadyRows};
+ghost use Rattle.planner.specs.Lists.{rows_in, ReadyRow, ReadyRows};
 
 use crate::lattice::Lattice;
 use crate::list::Rows;
 use crate::sizes::MOST_MIRRORS;
+use rank1::Plan;
 
 // A row's residue and its c.
 #[derive(Clone, Copy)]
@@ -30,14 +31,13 @@ fn occurrences_of(x: u16, residues: &[u16]) -> u16
     residues.iter().filter(|r| **r == x).count() as u16
 }
 
-// The residue and c of row i.
-fn entry_at(rows: &Rows, lattice: &Lattice, i: usize) -> Entry
-    requires ready { ReadyRows rows.now lattice.now }
-    requires i_bound { i < row_count rows.now.d rows.now.numbers.now }
-    ensures { EntryOf (plan_number rows.now.plan) lattice.now.n lattice.now.z.now (get_or (rows_in rows.now) i []) result.residue result.copies }
+// The residue and c of a row.
+fn entry_of(plan: Plan, row: &[i16], lattice: &Lattice) -> Entry
+    requires { ReadyRow lattice.now row.now }
+    ensures { EntryOf (plan_number plan) lattice.now.n lattice.now.z.now row.now result.residue result.copies }
 {
     let mut room = [0u16; MOST_MIRRORS];
-    let residues = lattice.residues_under(rows.plan, rows.row(i), &mut room);
+    let residues = lattice.residues_under(plan, row, &mut room);
     let residue = residues[0];
     let copies = occurrences_of(residue, residues);
     Entry { residue, copies }
@@ -49,9 +49,9 @@ pub(crate) fn write_map(rows: &Rows, lattice: &Lattice, out: &mut [u16])
     requires out_len { length out.old ≡ 2 * row_count rows.now.d rows.now.numbers.now }
     ensures { out.new ≡ residue_map (plan_number rows.now.plan) lattice.now.n (map pos lattice.now.z.now) (rows_in rows.now) }
 {
-    // kept: a proof knows no element that is written through `chunks_exact_mut`.
+    // kept: a proof knows no element that is written through `chunks_exact_mut`, so i is where the numbers of a row are written.
     for i in 0..rows.count() {
-        let e = entry_at(rows, lattice, i);
+        let e = entry_of(rows.plan, rows.row(i), lattice);
         out[2 * i] = e.residue;
         out[2 * i + 1] = e.copies;
     }
@@ -75,8 +75,8 @@ pub(crate) fn write_sums(rows: &Rows, lattice: &Lattice, terms: &[i32], sums: &m
 {
     sums.fill(0);
     let mut room = [0u16; MOST_MIRRORS];
-    for (i, term) in terms.iter().enumerate() {
-        let residues = lattice.residues_under(rows.plan, rows.row(i), &mut room);
+    for (row, term) in rows.each().zip(terms) {
+        let residues = lattice.residues_under(rows.plan, row, &mut room);
         add_term(i64::from(*term), residues, sums);
     }
 }
@@ -93,19 +93,24 @@ fn quotient_of(s: i64, c: u16) -> Option<i32>
     i32::try_from(s / c).ok()
 }
 
-// Condition 11 does not apply: the sum of each row is a multiple of its c, and the quotient has 32 bits.
+// Whether the sum of a row is a multiple of its c, and the quotient has 32 bits.
+fn gathers(plan: Plan, row: &[i16], lattice: &Lattice, sums: &[i64]) -> bool
+    requires ready { ReadyRow lattice.now row.now }
+    requires sums_len { length sums.now ≡ lattice.now.n }
+    ensures { result ≡ gathers (plan_number plan) lattice.now.n (map pos lattice.now.z.now) sums.now row.now }
+{
+    let e = entry_of(plan, row, lattice);
+    quotient_of(sums[usize::from(e.residue)], e.copies).is_some()
+}
+
+// Condition 11 does not apply: the sums of all rows gather.
 pub(crate) fn all_gather(rows: &Rows, lattice: &Lattice, sums: &[i64]) -> bool
     requires ready { ReadyRows rows.now lattice.now }
     requires sums_len { length sums.now ≡ lattice.now.n }
     ensures { result ≡ every (gathers (plan_number rows.now.plan) lattice.now.n (map pos lattice.now.z.now) sums.now) (rows_in rows.now) }
 {
-    for i in 0..rows.count() {
-        let e = entry_at(rows, lattice, i);
-        if quotient_of(sums[usize::from(e.residue)], e.copies).is_none() {
-            return false;
-        }
-    }
-    true
+    rows.each()
+        .all(|row| gathers(rows.plan, row, lattice, sums))
 }
 
 // Gathering, where all rows pass: each row's term.
@@ -116,7 +121,7 @@ pub(crate) fn write_terms(rows: &Rows, lattice: &Lattice, sums: &[i64], terms: &
     ensures { terms.new ≡ gathered_terms (plan_number rows.now.plan) lattice.now.n (map pos lattice.now.z.now) (rows_in rows.now) sums.now }
 {
     for (i, term) in terms.iter_mut().enumerate() {
-        let e = entry_at(rows, lattice, i);
+        let e = entry_of(rows.plan, rows.row(i), lattice);
         if let Some(quotient) = quotient_of(sums[usize::from(e.residue)], e.copies) {
             *term = quotient;
         }

@@ -1,7 +1,7 @@
 // The table of differences, each once: a row is found by an open-addressing hash. That no row stands twice is a matter of speed
 // alone, so no contract says it; what is said is which rows the table has.
 
-ghost use Rattle.std.specs.Prelude.{◌≡◌, true, ◌≤◌, ◌<◌, length};
+ghost use Rattle.std.specs.Prelude.{◌≡◌, true, ◌≤◌, ◌<◌, length, Some};
 ghost use mathlib.Core.List.{Memᴰ};
 ghost use Rattle.rank1.specs.Differences.{minus};
 ghost use Rattle.planner.specs.Sizes.{largest_size, slot_count};
@@ -14,7 +14,8 @@ use crate::sizes::{AXES, ROOM, SLOTS};
 
 // The differences that were found: `count` rows, one behind the other, and whether none was turned away or passed over. A slot is 0, or
 // one more than the number of a row.
-// kept: u16 for a slot, and not an Option, which would double the slots.
+// kept: u16 for a slot, and not an Option, which would double the slots; and `whole` is no sign of whether there are differences: those that
+// have room are searched with either way, so an Option does not say it.
 #[derive(Drop)]
 pub(crate) struct Differences {
     pub(crate) rows: [i16; ROOM * AXES],
@@ -24,7 +25,7 @@ pub(crate) struct Differences {
 }
 
 // Sets h to s - t.
-// kept: an index into s and t. A zip with iter_mut says nothing of what is written.
+// kept: an index into s and t. After a `zip` of `iter_mut` the library says nothing of what was written, so no proof of it closes.
 fn set_minus(s: &[i16], t: &[i16], h: &mut [i16])
     requires { Subtractable (length h.old) s.now t.now }
     ensures { h.new ≡ minus s.now t.now }
@@ -61,24 +62,25 @@ fn hash(h: &[i16]) -> usize
 }
 
 impl Differences {
+    // Whether the slot p is empty or has the row h.
+    fn takes(&self, p: usize, h: &[i16]) -> bool
+        requires storable { Storable h.now }
+        requires stored { Stored (length h.now) self.now }
+        requires within { p < slot_count }
+        ensures { result ≡ true → Probed (length h.now) h.now self.now (Some p) }
+    {
+        let o = usize::from(self.slots[p]);
+        o == 0 || row_at(&self.rows, o - 1, h.len()) == h
+    }
+
     // The first slot from the hash on that is empty or has the row h, if there is one.
     fn probe(&self, h: &[i16]) -> Option<usize>
         requires storable { Storable h.now }
         requires stored { Stored (length h.now) self.now }
         ensures { Probed (length h.now) h.now self.now result }
     {
-        let mut p = hash(h);
-        for _ in 0..SLOTS {
-            let o = usize::from(self.slots[p]);
-            if o == 0 {
-                return Some(p);
-            }
-            if row_at(&self.rows, o - 1, h.len()) == h {
-                return Some(p);
-            }
-            p = (p + 1) % SLOTS;
-        }
-        None
+        let from = hash(h);
+        (from..SLOTS).chain(0..from).find(|p| self.takes(*p, h))
     }
 
     // Adds a row unless it stands there; where there is no room for it, the table is not whole.
@@ -101,6 +103,8 @@ impl Differences {
         }
         let at = self.count * h.len();
         self.rows[at..at + h.len()].copy_from_slice(h);
+        // kept: this is the struct's own count of its rows, and no loop's counter; and there is room for fewer rows than u16 has numbers, so that
+        // `try_from` would have an `Err` that never comes.
         self.count += 1;
         self.slots[p] = self.count as u16;
     }
@@ -110,9 +114,6 @@ impl Differences {
         requires { Storable h.now × Stored (length h.now) self.now }
         ensures { result ≡ true → Memᴰ h.now (rows_found (length h.now) self.now) }
     {
-        match self.probe(h) {
-            Some(p) => self.slots[p] != 0,
-            None => false,
-        }
+        self.probe(h).is_some_and(|p| self.slots[p] != 0)
     }
 }

@@ -5,6 +5,7 @@ use crate::sizes::{AXES, LARGEST_MODULUS, LASTS, LEVEL_ROOM, PRODUCT_ROOM, ROOM,
 
 // The tables of a list: the rows that end by each axis and how many numbers they are, the marks of the pairs of axes that can change
 // places and of the axes whose sign can change, the differences by the axis where they end, and where their runs begin.
+// kept: how many rows a level has is known only when there is a list, and no heap is asked for a `Vec`, so its size stands beside it.
 #[derive(Drop)]
 pub(crate) struct ListTables {
     pub(crate) levels: [i16; (AXES + 1) * LEVEL_ROOM],
@@ -15,13 +16,15 @@ pub(crate) struct ListTables {
     pub(crate) bounds: [u16; AXES * LASTS + 1],
 }
 
-// The tables of a modulus: for the last components of the differences the solutions, where they begin, and how far apart they are.
-// kept: 0 stands for no step and n for no solution; an Option would ask for a test in the sieve's inner loop, which sets mark n without one.
+// The tables of a modulus: for the last components of the differences the solutions, where they begin, and how far apart they are, where there is room
+// for them.
+// kept: n stands for no solution. An Option has four bytes in place of two: 512 KiB more beside the 1,040 KiB of stack that `plan` needs, where less
+// than 1.5 MiB are promised; and the sieve's inner loop would test it, which sets mark n without a test.
 #[derive(Drop)]
 pub(crate) struct ModulusTables {
     pub(crate) solutions: [u16; SOLUTION_ROOM],
     pub(crate) starts: [usize; LASTS],
-    pub(crate) steps: [u16; LASTS],
+    pub(crate) steps: [Option<u16>; LASTS],
 }
 
 // What the recursion writes beside the vector: the sums of the differences' parts, the products of the axes, the struck values and the
@@ -30,6 +33,6 @@ pub(crate) struct ModulusTables {
 pub(crate) struct Work {
     pub(crate) sums: [u16; AXES * ROOM],
     pub(crate) products: [u16; PRODUCT_ROOM],
-    pub(crate) struck: [u8; AXES * LARGEST_MODULUS + 1],
+    pub(crate) struck: [bool; AXES * LARGEST_MODULUS + 1],
     pub(crate) owners: [u16; LARGEST_MODULUS],
 }

@@ -1,17 +1,17 @@
 -- Rows from zero up to another row, and the dictionary order of rows without negative components.
-use mathlib.Core.Path.{◌≡◌, refl, sym, ◌∙◌, ap}
+use mathlib.Core.Path.{◌≡◌, refl, ◌∙◌, ap}
 use mathlib.Core.Logic.{◌⊎◌, inl, inr, ◌≢◌}
-use mathlib.Core.Bool.{Bool, true, false, ◌&&◌, true≢false}
+use mathlib.Core.Bool.{false}
 use mathlib.Core.List.{List, [], ◌∷◌, map}
 use Prim.Native.Nat.{ℕ, zero, suc, ◌≤◌, ◌<◌}
 use native.Mathlib.Omega.{arith}
 use lib.Dec.{T, leb, leb→le, le→leb}
 use lib.IntN.{ℤ, pos, negsuc, nat_abs}
-use lib.ListN.{length, get_or}
+use lib.ListN.{length}
 use Rattle.rank1.specs.Index.{zero_row}
 use Rattle.rank1.specs.Search.{Before}
 use Rattle.rank1.specs.Valid.{Nonnegative}
-use Rattle.rank1.proofs.TestLaws.{true_holds, holds_true, fails_false, both, joined, some_of, of_some}
+use Rattle.rank1.proofs.TestLaws.{fails_false, both, joined, some_of, of_some}
 use Rattle.rank1.proofs.Order.{compared, before_irrefl, before_trans}
 use Rattle.rank1.specs.Corners.{from_zero, under, under_some, Earlier}
 
@@ -118,20 +118,6 @@ none_earlier zero (x ∷ k) e = e
 none_earlier (suc d) (x ∷ k) (inl l) = omega arith
 none_earlier (suc d) (x ∷ k) (inr p) = none_earlier d k p.1
 
--- ---- a row is up to another where it is as long and each of its components is up to the one at the same place
-pub under_places : (k c : List ℤ) → length k ≡ length c → ((j : ℕ) → j < length k → from_zero (get_or k j (pos 0)) (get_or c j (pos 0)) ≡ true) → under k c ≡ true
-under_places [] [] e h = refl
-under_places [] (y ∷ c) e h = absurd (omega arith)
-under_places (x ∷ k) [] e h = absurd (omega arith)
-under_places (x ∷ k) (y ∷ c) e h =
-    ap (λ (b : Bool). b && under k c) (h 0 (omega arith)) ∙ under_places k c (omega arith) (λ j l. h (suc j) (omega arith))
-
-pub places_under : (k c : List ℤ) → under k c ≡ true → (j : ℕ) → j < length k → from_zero (get_or k j (pos 0)) (get_or c j (pos 0)) ≡ true
-places_under [] c e j l = absurd (omega arith)
-places_under (x ∷ k) [] e j l = absurd (true≢false (sym e))
-places_under (x ∷ k) (y ∷ c) e zero l = holds_true (from_zero x y) (both (from_zero x y) (under k c) (true_holds (from_zero x y && under k c) e)).0
-places_under (x ∷ k) (y ∷ c) e (suc j) l =
-    places_under k c (holds_true (under k c) (both (from_zero x y) (under k c) (true_holds (from_zero x y && under k c) e)).1) j (omega arith)
-
+-- ---- a row that is not as long as another is not up to it
 pub under_apart : (k c : List ℤ) → length k ≢ length c → under k c ≡ false
 under_apart k c n = fails_false (under k c) (λ t. n (under-length k c t))

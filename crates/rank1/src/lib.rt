@@ -23,10 +23,10 @@ pub enum Refusal {
     Corners = 13,
 }
 
-// kept: the number itself, for those who are told it as one.
 impl From<Refusal> for u8 {
     ghost from_gives = { λ refusal given. given ≡ number refusal };
 
+    // kept: here a refusal gets the number that callers are told, which the enum itself gives it.
     fn from(refusal: Refusal) -> u8 {
         refusal as u8
     }
@@ -55,6 +55,7 @@ pub enum Plan {
 impl From<Plan> for u8 {
     ghost from_gives = { λ plan given. given ≡ plan_number plan };
 
+    // kept: here a plan gets the number that callers are told, which the enum itself gives it.
     fn from(plan: Plan) -> u8 {
         plan as u8
     }

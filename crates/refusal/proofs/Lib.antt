@@ -1,2 +1,3 @@
 -- Laws that the proofs of the refusals share.
 pub mod InputLaws
+pub mod ChunkLaws

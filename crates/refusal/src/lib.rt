@@ -1,5 +1,5 @@
 // Validation: the conditions 1 to 8 of document 01's refusal table and those of corners (document 02, c), each written once and told by `?`.
-// kept: the plan is a number, and d and the rows stand apart: what is tested here is what a caller was given, any number and any length, and C passes
+// kept: the plan is a number, and d and the rows, n and z stand apart: what is tested here is what a caller was given, any number and any length, and C passes
 // them so.
 
 #![tactic(auto)]
@@ -87,6 +87,8 @@ fn check_different(d: usize, rows: &[i16]) -> Result<(), Refusal>
     ensures { refused result ≡ equal_rows d rows.now }
 {
     let mut rest = rows;
+    // kept: a row is held against all that stand behind it, and `chunks_exact` hands over the row alone; with its number those behind would be cut
+    // out by an index.
     while let Some((row, behind)) = rest.split_at_checked(d) {
         if stands(row, behind) {
             return Err(Refusal::EqualRows);
@@ -145,6 +147,7 @@ pub fn check_corners(d: usize, corners: &[i16]) -> Result<(), Refusal>
 }
 
 // Condition 6: n or N not 1 to 8192.
+// kept: it differs from `check_axes` in its type, its limit and its refusal, which is all that it is made of.
 pub fn check_modulus(n: u16) -> Result<(), Refusal>
     ensures { refused result ≡ bad_modulus n }
 {

@@ -59,15 +59,23 @@ fn answer_request(asked: Request, rows: &[i16], writer: &mut Writer)
     }
 }
 
-// Answers a text in places that have room for every answer, and returns how many bytes it has. Places past it hold what they held.
-pub fn answer_whole(text: &[u8], out: &mut [u8; ANSWER_BYTES]) -> usize
-    ensures { Stands (AnswerTo text.now) out.old out.new result }
+// A writer with the answer to a text in it.
+fn answered(text: &[u8]) -> Writer
+    ensures { AnswerTo text.now result }
 {
     let mut writer = Writer {
         places: [0; ANSWER_BYTES],
         at: 0,
     };
     write_answer(text, &mut writer);
+    writer
+}
+
+// Answers a text in places that have room for every answer, and returns how many bytes it has. Places past it hold what they held.
+pub fn answer_whole(text: &[u8], out: &mut [u8; ANSWER_BYTES]) -> usize
+    ensures { Stands (AnswerTo text.now) out.old out.new result }
+{
+    let writer = answered(text);
     let answer = writer.written();
     out[..answer.len()].copy_from_slice(answer);
     answer.len()
@@ -78,11 +86,7 @@ pub fn answer_whole(text: &[u8], out: &mut [u8; ANSWER_BYTES]) -> usize
 pub fn answer(text: &[u8], out: &mut [u8]) -> Option<usize>
     ensures { AnsweredWith text.now out.old out.new result }
 {
-    let mut writer = Writer {
-        places: [0; ANSWER_BYTES],
-        at: 0,
-    };
-    write_answer(text, &mut writer);
+    let writer = answered(text);
     let answer = writer.written();
     if out.len() < answer.len() {
         return None;

@@ -71,6 +71,7 @@ pub(crate) fn read_request(text: &[u8], rows: &mut [i16; ROW_PLACES]) -> Result<
 
 impl Head {
     // 1, 2, and 3 for m not 0 to 512.
+    // kept: both constants are sizes of arrays, hence usize, and small; `try_from` would have an `Err` that never comes.
     fn check(self) -> Result<(), Refusal>
         ensures { refused result ≡ head_refusal self.plan self.d self.m }
     {
@@ -179,6 +180,7 @@ impl<'a> Reader<'a> {
     }
 
     // The rows, and nothing after them.
+    // kept: line 1 is in range, the plan at most 4, d at most 6 and m at most 512; `try_from` would have an `Err` that never comes.
     fn body(&mut self, head: Head, rows: &mut [i16; ROW_PLACES]) -> Result<Request, Refusal>
         requires { HeadIn head.plan head.d head.m }
         ensures { AskedIs (after_rows head.plan head.d head.ceiling (read_rows head.d head.m self.old)) rows.new result }
@@ -211,7 +213,8 @@ fn value_of(digits: &[u8]) -> u32
     requires { (length digits.now ≤ 6) × (every is_digit digits.now ≡ true) }
     ensures { result ≡ decimal digits.now }
 {
-    // kept: tried as a `fold`, whose closure would have to be callable at every value; the bound goes on from digit to digit
+    // kept: tried as a `fold`, whose closure would have to be callable at every value; the bound goes on from digit to digit. `parse` reads a
+    // `str`: making it and reading it have an `Err` each that never comes.
     let mut value = 0;
     for digit in digits {
         value = value * 10 + u32::from(*digit - b'0');
@@ -231,10 +234,10 @@ fn separator(j: usize, d: usize) -> u8
 fn clamp(value: u32, negative: bool) -> i16
     ensures { result ≡ clamped (signed negative value) }
 {
-    if 255 < value {
+    let Ok(size) = u8::try_from(value) else {
         return 256;
-    }
-    let x = value as i16;
+    };
+    let x = i16::from(size);
     if negative { -x } else { x }
 }
 
@@ -242,5 +245,6 @@ fn clamp(value: u32, negative: bool) -> i16
 fn clamp_ceiling(ceiling: u32) -> u16
     ensures { result ≡ clamped_ceiling ceiling }
 {
+    // kept: it is at most 8193; `try_from` would have an `Err` that never comes.
     ceiling.min(MOST_CEILING + 1) as u16
 }

@@ -41,7 +41,7 @@ impl Writer {
         self.byte(b'\n');
     }
 
-    // A plan's first line.
+    // A plan's first line. kept: n and z come one by one from the planner, once; a struct of them would be made for this call.
     pub(crate) fn plan(&mut self, n: u16, z: &[u16])
         requires { length self.old + 6 * length z.now + 6 ≤ ANSWER_BYTES }
         ensures { self.new ≡ self.old ++ number_text n ++ vector_text z.now }
@@ -55,13 +55,11 @@ impl Writer {
         requires { length self.old + 6 * length pairs.now ≤ ANSWER_BYTES }
         ensures { self.new ≡ self.old ++ map_text pairs.now }
     {
-        let mut rest = pairs;
-        while let [residue, count, others @ ..] = rest {
-            self.number(*residue);
+        for pair in pairs.chunks_exact(2) {
+            self.number(pair[0]);
             self.byte(b' ');
-            self.number(*count);
+            self.number(pair[1]);
             self.byte(b'\n');
-            rest = others;
         }
     }
 
@@ -78,6 +76,8 @@ impl Writer {
     }
 
     // A number, digit by digit: those before the last one first.
+    // kept: by hand, since `write!` promises its bytes on a `String` alone, which needs the heap. A digit is at most 9; `try_from` would have an
+    // `Err` that never comes.
     fn number(&mut self, x: u16)
         requires { length self.old + 5 ≤ ANSWER_BYTES }
         ensures text { self.new ≡ self.old ++ number_text x }
@@ -101,7 +101,7 @@ impl Writer {
         self.at = end;
     }
 
-    // One byte.
+    // One byte. kept: the count of the places that are written stands beside them, since no heap is asked for a `Vec`.
     fn byte(&mut self, b: u8)
         requires { length self.old < ANSWER_BYTES }
         ensures { self.new ≡ self.old ++ b ∷ [] }

@@ -39,6 +39,7 @@ fn answer_next(rt: &(impl Input + Print)) -> io::Result<bool> {
 }
 
 // At most 8,192 requests.
+// kept: the turns are counted, since a `while` would have to be shown to end.
 fn main(rt: HostRuntime) -> io::Result<()> {
     for _ in 0..8192 {
         if !answer_next(&rt)? {

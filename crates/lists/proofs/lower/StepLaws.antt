@@ -1,23 +1,31 @@
--- Whether the rows of a list allow it to be lower, from the front.
-use mathlib.Core.List.{List, [], ◌∷◌}
-use Prim.Native.Nat.{ℕ, zero, suc, ◌<◌}
+-- What a row of a run says of its list, by itself and among the others.
+use mathlib.Core.Path.{◌≡◌, sym, ◌∙◌, ap, subst}
+use mathlib.Core.Logic.{◌↔◌}
+use mathlib.Core.List.{List, []}
+use Prim.Native.Nat.{ℕ, ◌/◌, ◌<◌}
+use native.Mathlib.Nat.{le-div_iff_mul-le}
 use native.Mathlib.Omega.{arith}
 use lib.IntN.{ℤ}
 use lib.ListN.{length, get_or}
+use Rattle.rank1.specs.Index.{index_list}
+use Rattle.rank1.proofs.IndexLaws.{rows-length, row_at_lem, part_length}
 use Rattle.lists.specs.Inner.{RowSteps}
 
--- the rows hs allow the list ks to be lower
-abbrev pub AllStep : List (List ℤ) → List (List ℤ) → Type 0
-AllStep ks hs = (i : ℕ) → i < length hs → RowSteps ks (get_or hs i [])
+module _ (d : ℕ) (some : 0 < d) where
+  -- a row of the list allows it to be lower just where it does by itself, since it is as long as the others
+  pub as_listed :
+      (xs : List ℤ) (i : ℕ) → i < length (index_list d xs)
+      → let k = get_or (index_list d xs) i [] in RowSteps (index_list (length k) xs) k ↔ RowSteps (index_list d xs) k
+  as_listed xs i l = (subst Here long, subst Here (sym long))
+    where
+      m : ℕ
+      m = length xs / d
 
--- the first of them does, and the others
-module _ (ks : List (List ℤ)) (k : List ℤ) (hs : List (List ℤ)) where
-  pub step_first : AllStep ks (k ∷ hs) → RowSteps ks k
-  step_first all = all 0 (omega arith)
+      Here : ℕ → Type 0
+      Here n = RowSteps (index_list n xs) (get_or (index_list d xs) i [])
 
-  pub step_rest : AllStep ks (k ∷ hs) → AllStep ks hs
-  step_rest all i l = all (suc i) (omega arith)
+      inside : i < m
+      inside = omega (arith, rows-length d m xs)
 
-  pub step_both : RowSteps ks k → AllStep ks hs → AllStep ks (k ∷ hs)
-  step_both first rest zero l = first
-  step_both first rest (suc i) l = rest i (omega arith)
+      long : length (get_or (index_list d xs) i []) ≡ d
+      long = ap length (row_at_lem d m xs i inside) ∙ part_length d m xs i inside ((le-div_iff_mul-le some).0 (omega arith))

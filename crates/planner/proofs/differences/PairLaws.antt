@@ -1,7 +1,7 @@
 -- Collecting differences: what one pair gives (`grown_same`, `grown-added`), and one turn more of a loop (`grown-more`).
 use mathlib.Core.Path.{◌≡◌, refl, sym, ◌∙◌, ap, subst}
 use mathlib.Core.Logic.{◌≢◌, inl, inr, ⊎_elim}
-use mathlib.Core.Bool.{Bool, true}
+use mathlib.Core.Bool.{Bool, true, false, false≢true}
 use mathlib.Core.List.Memᴰ
 use mathlib.Core.List.{List, Memᴰ}
 use Prim.Native.Nat.{ℕ, ◌+◌, ◌≤◌}
@@ -98,6 +98,15 @@ module _ (pairs : ℕ → Pairs) (from : ℕ) where
           has_stays D₁ D₂ (minus s t) q.stays
           (r.all (q.was e) s t (record { turn = p.turn; low = p.low; high = omega (arith, p.high); pair = p.pair }) n)
 
+  -- where the table is full, as after more turns
+  pub grown-full : (i n : ℕ) (D D' : List (List ℤ)) (w w' : Bool) → i ≤ n → w' ≡ false → Grown (Turns from i pairs) D D' w w' → Grown (Turns from n pairs) D D' w w'
+  grown-full i n D D' w w' l full g = record {
+    stays = g.stays;
+    only = λ h m. ⊎_elim inl (λ a. inr (made_more i n h l a)) (g.only h m);
+    was = g.was;
+    all = λ e. absurd (false≢true (sym full ∙ e));
+  }
+
 -- ---- adding one difference to the table
 pub grown-added :
     (d : ℕ) (h : List ℤ) (t t' : Differences) (a b : List ℤ) (j : ℕ) → Added d h t t' → Upright a b h j → a ≢ b
@@ -122,3 +131,14 @@ pub grown-met :
 grown-met plan d owner from from' members row row' D D' w w' e f g =
     subst (λ (k : ℕ). Grown (Turns k members.count (MemberPair plan d owner members row')) D D' w w') e
     (subst (λ (r : List ℤ). Grown (Turns from members.count (MemberPair plan d owner members r)) D D' w w') f g)
+
+-- ---- pairs that are the same in other words
+pub grown-same_pairs :
+    (P Q : Pairs) (D D' : List (List ℤ)) (w w' : Bool) → ((s t : List ℤ) → P s t → Q s t) → ((s t : List ℤ) → Q s t → P s t)
+    → Grown P D D' w w' → Grown Q D D' w w'
+grown-same_pairs P Q D D' w w' f b g = record {
+  stays = g.stays;
+  only = λ h m. ⊎_elim inl (λ a. inr (record { s = a.s; t = a.t; pair = f a.s a.t a.pair; differ = a.differ; which = a.which })) (g.only h m);
+  was = g.was;
+  all = λ e s t p n. g.all e s t (b s t p) n;
+}

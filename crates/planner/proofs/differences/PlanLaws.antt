@@ -1,12 +1,12 @@
 -- The pairs by plan. Each pair that is gone through is one that the plan keeps apart, so its difference is avoided (`pairs_avoided`);
 -- where all members are there, each pair that the plan keeps apart is gone through, as it stands or turned (`pairs_complete`).
 use mathlib.Core.Path.{◌≡◌, refl, sym, ◌∙◌, ap, subst}
-use mathlib.Core.Logic.{◌≢◌, inl, inr, ⊎_elim}
+use mathlib.Core.Logic.{◌≢◌, ◌⊎◌, inl, inr, ⊎_elim}
 use mathlib.Core.Bool.{Bool, true, false, cond}
 use mathlib.Core.List.Memᴰ
 use mathlib.Core.List.{List, [], ◌∷◌, Memᴰ}
-use Prim.Native.Nat.{ℕ, zero, suc, ◌*◌, ◌<◌, ◌≤◌, zero-le}
-use native.Mathlib.Nat.{zero-mul, mul-le-mul}
+use Prim.Native.Nat.{ℕ, zero, suc, ◌+◌, ◌*◌, ◌<◌, ◌≤◌, zero-le}
+use native.Mathlib.Nat.{zero-mul, mul-le-mul, div-mul-le_self, div-eq_of_eq-mul_left}
 use native.Mathlib.Omega.{arith}
 use lib.Dec.{leb}
 use lib.IntN.{ℤ, pos, nat_abs}
@@ -27,7 +27,9 @@ use Rattle.planner.specs.Sizes.{axes, most_members, largest_component}
 use Rattle.planner.specs.Inner.{Covered, row_at}
 use Rattle.planner.specs.Members.{Kin, MemberAt, AllMembers}
 use Rattle.planner.specs.declared.members.Members.{Members}
-use Rattle.planner.specs.Table.{Turns, MetPairs, PlanPairs, EitherSign, Made, Grown, RowRun, Pairable}
+use Rattle.planner.specs.Table.{Pairs, MemberPair, Turns, MetPairs, PlanPairs, EitherSign, Made, Grown, RowRun, Pairable}
+use Rattle.planner.proofs.RowLaws.{rows_alone}
+use Rattle.planner.proofs.differences.PairLaws.{grown-same_pairs}
 use Rattle.planner.proofs.products.ProductLaws.{covered_take, covered_drop}
 
 -- ---- runs of rows
@@ -132,6 +134,15 @@ rows-differ plan d i j rows v l m n e =
     (⊎_elim (λ k. n k) (λ k. distinct_at (index_list d rows) [] j i v.different k l (sym e)))
     (compared i j)
 
+-- ---- the five plans, one by one
+by_plan : (P : ℕ → Type 0) → P 0 → P 1 → P 2 → P 3 → P 4 → (plan : ℕ) → plan ≤ 4 → P plan
+by_plan P a b c d e zero l = a
+by_plan P a b c d e (suc zero) l = b
+by_plan P a b c d e (suc (suc zero)) l = c
+by_plan P a b c d e (suc (suc (suc zero))) l = d
+by_plan P a b c d e (suc (suc (suc (suc zero)))) l = e
+by_plan P a b c d e (suc (suc (suc (suc (suc p))))) l = absurd (omega arith)
+
 -- ---- each pair is kept apart
 -- the difference of two different rows that are a pair of the plan is avoided
 abbrev pub PairsAvoided : (plan d : ℕ) (rows : List ℤ) (members : Members) → Type 0
@@ -202,12 +213,9 @@ avoided_others d rows members v kin s t p n =
 
 -- all plans
 pub pairs_avoided : (plan d : ℕ) (rows : List ℤ) (members : Members) → plan ≤ 4 → PairsAvoided plan d rows members
-pairs_avoided zero d rows members l = avoided_zeros d rows members
-pairs_avoided (suc zero) d rows members l = avoided_rows d rows members
-pairs_avoided (suc (suc zero)) d rows members l = avoided_mirrors d rows members
-pairs_avoided (suc (suc (suc zero))) d rows members l = avoided_against d rows members
-pairs_avoided (suc (suc (suc (suc zero)))) d rows members l = avoided_others d rows members
-pairs_avoided (suc (suc (suc (suc (suc p))))) d rows members l = absurd (omega arith)
+pairs_avoided plan d rows members =
+    by_plan (λ k. PairsAvoided k d rows members) (avoided_zeros d rows members) (avoided_rows d rows members) (avoided_mirrors d rows members)
+    (avoided_against d rows members) (avoided_others d rows members) plan
 
 -- ---- each pair that is kept apart is gone through
 -- a list has t - s where it has s - t
@@ -371,12 +379,9 @@ complete_others d rows members v all D f s t (k, m, o, n, i) =
 
 -- all plans
 pub pairs_complete : (plan d : ℕ) (rows : List ℤ) (members : Members) → plan ≤ 4 → PairsComplete plan d rows members
-pairs_complete zero d rows members l = complete_zeros d rows members
-pairs_complete (suc zero) d rows members l = complete_rows d rows members
-pairs_complete (suc (suc zero)) d rows members l = complete_mirrors d rows members
-pairs_complete (suc (suc (suc zero))) d rows members l = complete_against d rows members
-pairs_complete (suc (suc (suc (suc zero)))) d rows members l = complete_others d rows members
-pairs_complete (suc (suc (suc (suc (suc p))))) d rows members l = absurd (omega arith)
+pairs_complete plan d rows members =
+    by_plan (λ k. PairsComplete k d rows members) (complete_zeros d rows members) (complete_rows d rows members) (complete_mirrors d rows members)
+    (complete_against d rows members) (complete_others d rows members) plan
 
 -- ---- the pairs of a plan, as the code goes through them
 module _ (plan d : ℕ) (rows : List ℤ) (members : Members) (D D' : List (List ℤ)) (w w' : Bool) where
@@ -390,6 +395,54 @@ module _ (plan d : ℕ) (rows : List ℤ) (members : Members) (D D' : List (List
           → Grown (PlanPairs plan d rows members) D D' w w'
       go zero e g = g
       go (suc p) e g = absurd (omega arith)
+
+-- the first m rows of a run, where they stand alone: a run
+pub run_alone : (d m : ℕ) (xs : List ℤ) → 1 ≤ d → RowRun d m xs → RowRun d (row_count d (take (m * d) xs)) (take (m * d) xs)
+run_alone d m xs some r =
+    let alone = rows_alone d m xs some r.inside in
+    record {
+      few = omega (arith, alone.0, r.few);
+      inside = div-mul-le_self (length (take (m * d) xs)) d;
+      small = λ e l. let h : e < m = omega (arith, alone.0, l) in subst (Covered largest_component) (sym (alone.1 e h)) (r.small e h);
+    }
+
+-- with the same pairs under plans 1 and 2
+module _ (plan d : ℕ) (rows : List ℤ) (members : Members) (D D' : List (List ℤ)) (w w' : Bool) (some : 1 ≤ d) (run : RowRun d members.count members.rows) where
+  abbrev front : List ℤ
+  front = take (members.count * d) members.rows
+
+  alone : (row_count d front ≡ members.count) × ((i : ℕ) → i < members.count → row_at d front i ≡ row_at d members.rows i)
+  alone = rows_alone d members.count members.rows some run.inside
+
+  abbrev met : List ℤ → ℕ → Pairs
+  met xs = MetPairs plan d true xs members
+
+  pair_as : (i : ℕ) (k k' s t : List ℤ) → k ≡ k' → Turns (i + 1) members.count (MemberPair plan d i members k) s t → Turns (i + 1) members.count (MemberPair plan d i members k') s t
+  pair_as i k k' s t e p = subst (λ (h : List ℤ). Turns (i + 1) members.count (MemberPair plan d i members h) s t) e p
+
+  forth : (s t : List ℤ) → Turns 0 (row_count d front) (met front) s t → Turns 0 members.count (met members.rows) s t
+  forth s t p = let h : p.turn < members.count = omega (arith, alone.0, p.high) in
+      record { turn = p.turn; low = zero-le; high = h; pair = pair_as p.turn (row_at d front p.turn) (row_at d members.rows p.turn) s t (alone.1 p.turn h) p.pair }
+
+  back : (s t : List ℤ) → Turns 0 members.count (met members.rows) s t → Turns 0 (row_count d front) (met front) s t
+  back s t p =
+      record { turn = p.turn; low = zero-le; high = omega (arith, alone.0, p.high); pair = pair_as p.turn (row_at d members.rows p.turn) (row_at d front p.turn) s t (sym (alone.1 p.turn p.high)) p.pair }
+
+  pub grown-alone : plan ≡ 1 ⊎ plan ≡ 2 → Grown (Turns 0 (row_count d front) (met front)) D D' w w' → Grown (PlanPairs plan d rows members) D D' w w'
+  grown-alone e g =
+      go plan e (grown-same_pairs (Turns 0 (row_count d front) (met front)) (Turns 0 members.count (met members.rows)) D D' w w' forth back g)
+    where
+      go :
+          (plan : ℕ) → plan ≡ 1 ⊎ plan ≡ 2 → Grown (Turns 0 members.count (MetPairs plan d true members.rows members)) D D' w w'
+          → Grown (PlanPairs plan d rows members) D D' w w'
+      go zero e g = ⊎_elim (λ h. absurd (omega (arith, h))) (λ h. absurd (omega (arith, h))) e
+      go (suc zero) e g = g
+      go (suc (suc zero)) e g = g
+      go (suc (suc (suc p))) e g = ⊎_elim (λ h. absurd (omega (arith, h))) (λ h. absurd (omega (arith, h))) e
+
+-- the row of zeros alone is one row
+pub one_zeros : (d : ℕ) → 1 ≤ d → row_count d (zero_row d) ≡ 1
+one_zeros d some = div-eq_of_eq-mul_left some (omega (arith, length-replicate d (pos 0)))
 
 -- what is made of a pair is avoided with its difference
 pub made-avoided :

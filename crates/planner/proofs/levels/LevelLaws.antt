@@ -10,10 +10,10 @@ use native.Mathlib.Nat.{suc-mul, div-eq_of_eq-mul_left, mul-le-mul_right}
 use native.Mathlib.Decide.{dec_lt}
 use native.Mathlib.Omega.{arith}
 use borrow.Author.Count.{below_more}
-use borrow.Rule.Slice.PartMut.{put_mid, same_len_mid}
+use borrow.Rule.Slice.PartMut.{put_mid}
 use lib.Dec.{T}
 use lib.IntN.{ℤ, pos}
-use lib.ListN.{length, get_or, take, drop, set, length-append, length-drop, length-set}
+use lib.ListN.{length, get_or, take, drop, set, length-append, length-drop}
 use lib.Seq.{length-take-le, take_all, take-append-le, drop-append-le, drop_at, get_or-drop, get_or-set_same, get_or-set_other, paste, take-paste, length-paste}
 use Rattle.std.proofs.lemmas.List.{get_or_past}
 use Rattle.rank1.specs.Tests.{every, same_number}
@@ -118,6 +118,13 @@ ending_in j (k ∷ ks) r m e =
     go true n = Memᴰ.tail n
     go false n = n
 
+-- from the last axis on no row has a component, so there they are the whole list
+pub ending_all : (d : ℕ) (ks : List (List ℤ)) → ((k : List ℤ) → Memᴰ k ks → length k ≡ d) → ending d ks ≡ ks
+ending_all d [] h = refl
+ending_all d (k ∷ ks) h =
+    ending-keep d k ks (from_zero_lem d k (from_places d k (λ i l. absurd (omega (arith, h k (Memᴰ.head refl))))))
+    ∙ ap (λ (rs : List (List ℤ)). k ∷ rs) (ending_all d ks (λ r m. h r (Memᴰ.tail m)))
+
 -- different rows stay different
 pub ending_distinct : (j : ℕ) (ks : List (List ℤ)) → Distinct ks → Distinct (ending j ks)
 ending_distinct j [] h = tt
@@ -211,18 +218,26 @@ module _ (d j i : ℕ) (xs old new : List ℤ) (at : ℕ) (s : Keeping d j i xs 
       rest : d ≤ length (drop (i * d) xs)
       rest = omega (arith, length-drop (i * d) xs, past)
 
-  -- a turn
+  -- a turn, over row k
   pub keep-turn :
-      (next : List ℤ) (r : ℕ) → 1 ≤ d → suc i * d ≤ length xs → length xs ≤ length old → RowKept d i j at xs new next r
+      (k next : List ℤ) (r : ℕ) → k ≡ take d (drop (i * d) xs) → 1 ≤ d → suc i * d ≤ length xs → length xs ≤ length old → RowKept j at k new next r
       → Keeping d j (suc i) xs old next r
-  keep-turn next r l f g k = go (zero_from j (take d (drop (i * d) xs))) refl
+  keep-turn k next r e l f g h = go (zero_from j k) refl
     where
+      long : length k ≡ d
+      long = ap length e ∙ length-take-le d (drop (i * d) xs) (omega (arith, length-drop (i * d) xs, suc-mul i d))
+
+      pasted : take at new ++ k ++ drop (at + length k) new ≡ paste new at (drop (i * d) xs) d
+      pasted = ap (λ (n : ℕ). take at new ++ k ++ drop (at + n) new) long ∙ ap (λ (s : List ℤ). take at new ++ s ++ drop (at + d) new) e
+
       moved : (mid : List ℤ) (m : ℕ) → next ≡ mid → r ≡ m → Keeping d j (suc i) xs old mid m → Keeping d j (suc i) xs old next r
       moved mid m p q t = rw (p, q) t
 
-      go : (b : Bool) → zero_from j (take d (drop (i * d) xs)) ≡ b → Keeping d j (suc i) xs old next r
-      go true e = let p = k.copied e in moved (paste new at (drop (i * d) xs) d) (at + d) p.0 p.1 (keep_row l f g e)
-      go false e = let p = k.passed e in moved new at p.0 p.1 (keep_skip e)
+      go : (b : Bool) → zero_from j k ≡ b → Keeping d j (suc i) xs old next r
+      go true t =
+          let p = h.copied t in
+          moved (paste new at (drop (i * d) xs) d) (at + d) (p.0 ∙ pasted) (p.1 ∙ ap (λ (n : ℕ). at + n) long) (keep_row l f g (ap (zero_from j) (sym e) ∙ t))
+      go false t = let p = h.passed t in moved new at p.0 p.1 (keep_skip (ap (zero_from j) (sym e) ∙ t))
 
 -- ---- the levels, one after the other
 -- the places of one level
@@ -237,16 +252,12 @@ module _ (d top j : ℕ) (xs levels : List ℤ) (sizes : List ℕ) (k r : ℕ) (
   after = put_mid (j * level_room) k levels new
 
   pub levels-more :
-      k ≡ level_room → j < axes + 1 → length xs ≤ level_room → Covered top xs → length new ≡ length (take k (drop (j * level_room) levels))
+      k ≡ level_room → j < axes + 1 → length sizes ≡ axes + 1 → length levels ≡ (axes + 1) * level_room → length xs ≤ level_room → Covered top xs → length new ≡ length (take k (drop (j * level_room) levels))
       → Kept d j xs (take k (drop (j * level_room) levels)) new r → LevelsTo d top j xs levels sizes → LevelsTo d top (j + 1) xs after (set sizes j r)
-  levels-more e l f g h kept s = record {
-    area = record {
-      tall = length-set sizes j r ∙ s.area.tall;
-      long = same_len_mid (j * level_room) k levels new h ∙ s.area.long;
-      covers =
-          covered_append top (take (j * level_room) levels) (new ++ drop k rest) (covered_take top (j * level_room) levels s.area.covers)
-          (covered_append top new (drop k rest) (kept.covers top g (covered_take top k rest covers)) (covered_drop top k rest covers));
-    };
+  levels-more e l tall long f g h kept s = record {
+    covers =
+        covered_append top (take (j * level_room) levels) (new ++ drop k rest) (covered_take top (j * level_room) levels s.covers)
+        (covered_append top new (drop k rest) (kept.covers top g (covered_take top k rest behind)) (covered_drop top k rest behind));
     few =
         below_more (λ i. get_or (set sizes j r) i 0 ≤ level_room) j
         (λ i m. omega (arith, other i m, s.few i m))
@@ -260,20 +271,20 @@ module _ (d top j : ℕ) (xs levels : List ℤ) (sizes : List ℕ) (k r : ℕ) (
       rest : List ℤ
       rest = drop (j * level_room) levels
 
-      covers : Covered top (drop (j * level_room) levels)
-      covers = covered_drop top (j * level_room) levels s.area.covers
+      behind : Covered top (drop (j * level_room) levels)
+      behind = covered_drop top (j * level_room) levels s.covers
 
       stored : get_or (set sizes j r) j 0 ≡ r
-      stored = get_or-set_same sizes j r 0 (omega (arith, s.area.tall))
+      stored = get_or-set_same sizes j r 0 (omega (arith, tall))
 
       other : (i : ℕ) → i < j → get_or (set sizes j r) i 0 ≡ get_or sizes i 0
       other i m = get_or-set_other sizes j i r 0 (omega arith)
 
       start : j * level_room ≤ length levels
-      start = omega (arith, s.area.long)
+      start = omega (arith, long)
 
       size : length new ≡ level_room
-      size = h ∙ part-size j k levels e l s.area.long
+      size = h ∙ part-size j k levels e l long
 
       -- the new level
       here : level_run after (set sizes j r) j ≡ take r new
@@ -310,10 +321,6 @@ module _ (plan d : ℕ) (xs : List ℤ) (v : ValidList plan d xs) where
 
   module _ (top : ℕ) (levels : List ℤ) (sizes : List ℕ) (s : Levels d top xs levels sizes) where
     module _ (j : ℕ) (l : j ≤ d) where
-      -- a level is in its places
-      pub level_room_lem : j * level_room + get_or sizes j 0 ≤ length levels
-      level_room_lem = omega (arith, s.few j l, s.area.long, v.few_axes)
-
       run : RunOf d (ending j (index_list d xs)) (level_run levels sizes j)
       run = s.level j l
 
@@ -329,5 +336,5 @@ module _ (plan d : ℕ) (xs : List ℤ) (v : ValidList plan d xs) where
         different = subst Distinct (sym run.rows) (ending_distinct j (index_list d xs) v.different);
         unsigned = λ h k m. v.unsigned h k (level_member k m).0;
         ended = λ k m. zero_from_lem j k (level_member k m).1;
-        covers = covered_take top (get_or sizes j 0) (drop (j * level_room) levels) (covered_drop top (j * level_room) levels s.area.covers);
+        covers = covered_take top (get_or sizes j 0) (drop (j * level_room) levels) (covered_drop top (j * level_room) levels s.covers);
       }

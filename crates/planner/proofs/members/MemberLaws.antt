@@ -25,7 +25,7 @@ use Rattle.rank1.proofs.FlipLaws.{flip_at, flip_other, flip-flip, flip-sizes}
 use Rattle.planner.specs.Sizes.{axes, most_members, largest_component, largest_size}
 use Rattle.planner.specs.Inner.{Covered, row_at}
 use Rattle.planner.specs.declared.members.Members.{Members}
-use Rattle.planner.specs.Members.{members_of, MemberAt, Gathering, SmallRow, SameFrom, members_from, Pushed, MembersStay, Doubled, Mirroring}
+use Rattle.planner.specs.Members.{members_of, MemberAt, Gathering, SmallRow, SameFrom, members_from, Pushed, MembersStay, Doubled, Mirroring, RowMembers}
 use Rattle.planner.proofs.RowLaws.{row_joined, row_among, rows_stay, rows-from, rows-from-length, row-behind}
 
 -- ---- the mirrors of a row, by doubling
@@ -265,15 +265,6 @@ module _ (d owner : ℕ) (k : List ℤ) where
       owned e f g (no h) = s.kept e (omega arith) ∙ t.owned e f (omega arith)
 
 -- ---- the members of one row more
--- from number `from` on
-pub record RowMembers (plan d from owner : ℕ) (k : List ℤ) (m : Members) : Type 0 where
-  pub few_axes : d ≤ axes
-  pub few : m.count ≤ most_members
-  pub within : from ≤ m.count
-  pub owned : (e : ℕ) → from ≤ e → e < m.count → get_or m.owners e 0 ≡ owner
-  pub kin : (s : List ℤ) → Memᴰ s (members_from d from m) → Memᴰ s (mirrors_under plan k)
-  pub all : m.whole ≡ true → (s : List ℤ) → Memᴰ s (mirrors_under plan k) → Memᴰ s (members_from d from m)
-
 -- there is no room for any
 pub row-full : (plan d owner : ℕ) (k : List ℤ) (m : Members) → d ≤ axes → m.count ≤ most_members → RowMembers plan d m.count owner k (some m)
 row-full plan d owner k m r l = record {

@@ -2,7 +2,7 @@
 -- are; any other puts them once more behind, each with twice the residue of the product with the sign turned added. At the end: what a
 -- list of rows says of one row.
 use mathlib.Core.Path.{◌≡◌, refl, sym, ◌∙◌, ap, subst}
-use mathlib.Core.List.{List, [], ◌∷◌, ◌++◌, map, map-map, map-append, append-nil, append_assoc}
+use mathlib.Core.List.{List, [], ◌∷◌, ◌++◌, map, map-map, map-append, append-nil, append_assoc, Memᴰ}
 use Prim.Native.Nat.{ℕ, zero, suc, ◌+◌, ◌*◌, ◌%◌, ◌^◌, ◌<◌, ◌≤◌}
 use native.Mathlib.Numerals.{add-one}
 use native.Mathlib.Nat.{add-zero}
@@ -15,13 +15,13 @@ use mir.Syntax.{w16}
 use mir.Val.{SFits, to_z, of_z}
 use mir.Facts.{to_z-of_z}
 use Rattle.rank1.specs.Residue.{residue, dot, residue_at}
-use Rattle.rank1.specs.Index.{signs, headed, mirrors, row_count}
+use Rattle.rank1.specs.Index.{signs, headed, mirrors, row_count, index_list}
 use Rattle.rank1.specs.Axes.{ZeroFrom}
 use Rattle.rank1.proofs.Whole as W
 use Rattle.rank1.proofs.ResidueLaws.{residue-add, residue-lt}
 use Rattle.rank1.proofs.MirrorLaws.{mirrors-length}
 use Rattle.rank1.proofs.FlipLaws.{size-neg}
-use Rattle.rank1.proofs.IndexLaws.{part_length, row_in}
+use Rattle.rank1.proofs.IndexLaws.{part_length, row_in, row_out}
 use Rattle.rank1.proofs.SumLaws.{nonzeros-le}
 use Rattle.planner.specs.Sizes.{most_mirrors, largest_size, places}
 use Rattle.planner.specs.Inner.{place, RowReady, Ready}
@@ -329,3 +329,7 @@ module _ (d : ℕ) (xs : List ℤ) (n : ℕ) (z table : List ℕ) (i : ℕ) (r :
 
   pub row-ready : (k : List ℤ) → k ≡ take d (drop (i * d) xs) → RowReady n z k table
   row-ready k e = subst (λ (h : List ℤ). RowReady n z h table) (sym e) part-ready
+
+-- a row of the list, as an iterator gives it
+pub listed-ready : (d : ℕ) (xs : List ℤ) (n : ℕ) (z table : List ℕ) → Ready d xs n z table → (k : List ℤ) → Memᴰ k (index_list d xs) → RowReady n z k table
+listed-ready d xs n z table r k m = let at = row_out d (row_count d xs) xs k m in row-ready d xs n z table at.index r at.inside k at.is

@@ -8,21 +8,14 @@ use lib.IntN.{ℤ}
 use Rattle.std.specs.Prelude.{Result, Ok, Err}
 use Rattle.rank1.specs.declared.Refusal.{Refusal}
 use Rattle.rank1.specs.declared.Refusal.TheVariants as refusals
-use Rattle.planner.specs.declared.tables.Work.{Work}
 use Rattle.rank1.specs.declared.Tally.{Tally}
 use Rattle.rank1.specs.Index.{index_list}
-use Rattle.rank1.specs.Rule.{Rule, Admissible}
+use Rattle.rank1.specs.Rule.{Admissible}
 use Rattle.rank1.specs.Search.{Hopeless}
 use Rattle.rank1.specs.Tally.{recount, least_modulus}
 use Rattle.rank1.specs.Valid.{ValidList}
 use Rattle.rank1.proofs.BoundLaws.{valid_rows, bound_hopeless}
-use Rattle.planner.specs.Stage.{Roomy, PlanBetween}
-
--- ---- the moduli from low on: those below n fail, and the work serves the next
-pub record Ascending (rule : Rule) (d low n : ℕ) (z : List ℕ) (w : Work) : Type 0 where
-  pub roomy : Roomy d z w
-  pub from_low : low ≤ n
-  pub fail : (m : ℕ) → low ≤ m → m < n → Hopeless rule d m
+use Rattle.planner.specs.Stage.{PlanBetween}
 
 -- counting: moduli below the tally's bound are passed over
 module _ (plan d low start high : ℕ) (rows : List ℤ) (tally : Tally) (list : ValidList plan d rows) (counted : tally ≡ recount plan d (index_list d rows)) (some : 1 ≤ low) (begins : start ≡ max low (least_modulus plan tally)) where

@@ -17,6 +17,7 @@ use mir.Syntax.{w16}
 use mir.Val.{SFits, to_z, of_z}
 use mir.Facts.{to_z-of_z}
 use Rattle.rank1.specs.Residue.{residue, dot}
+use Rattle.rank1.specs.Search.{largest}
 use Rattle.rank1.proofs.ResidueLaws.{residue-mod, residue-lt, residue_is}
 use Rattle.rank1.proofs.DotLaws.{dot-turn}
 use Rattle.planner.specs.Sizes.{largest_size, middle, places, product_room}
@@ -61,7 +62,7 @@ negative-product n a v h =
 pub record Setting (n v axis x : ℕ) (old new : List ℕ) : Type 0 where
   pub size : length new ≡ length old
   pub entry : (y : ℤ) → nat_abs y < x → get_or new (axis * places + place y) 0 ≡ residue n (y *ℤ pos v)
-  pub kept : KeptBelow (axis * places) old new
+  pub kept : KeptBelow 0 (axis * places) old new
 
 -- at the start: no size is below 0
 pub set_none : (n v axis : ℕ) (old : List ℕ) → Setting n v axis 0 old old
@@ -191,9 +192,18 @@ set_products n top j z old new narrow h p s = record {
 pub covered_wider : (top more : ℕ) (xs : List ℤ) → top ≤ more → more ≤ largest_size → Covered top xs → Covered more xs
 covered_wider top more xs l h c = record { narrow = h; covered = λ i. omega (arith, c.covered i) }
 
--- one more component, and a top that is no smaller
-pub covered_more : (xs : List ℤ) (i top new : ℕ) → top ≤ new → nat_abs (get_or xs i (pos 0)) ≤ new → ((k : ℕ) → k < i → nat_abs (get_or xs k (pos 0)) ≤ top) → (k : ℕ) → k < i + 1 → nat_abs (get_or xs k (pos 0)) ≤ new
-covered_more xs i top new h l all = below_more (λ k. nat_abs (get_or xs k (pos 0)) ≤ new) i (λ k m. omega (arith, all k m)) l
+-- the largest size covers the list
+pub covered_largest : (xs : List ℤ) → Covered largest_size xs → Covered (largest (map nat_abs xs)) xs
+covered_largest xs c = record { narrow = below xs c.covered; covered = above xs }
+  where
+    below : (xs : List ℤ) → ((i : ℕ) → nat_abs (get_or xs i (pos 0)) ≤ largest_size) → largest (map nat_abs xs) ≤ largest_size
+    below [] h = zero-le
+    below (x ∷ xs) h = omega (arith, h 0, below xs (λ i. h (suc i)))
+
+    above : (xs : List ℤ) (i : ℕ) → nat_abs (get_or xs i (pos 0)) ≤ largest (map nat_abs xs)
+    above [] i = zero-le
+    above (x ∷ xs) zero = omega arith
+    above (x ∷ xs) (suc i) = omega (arith, above xs i)
 
 -- the start of a list is covered with it
 pub covered_take : (top d : ℕ) (xs : List ℤ) → Covered top xs → Covered top (take d xs)

@@ -1,8 +1,12 @@
 -- `residue_map` meets its contract: where nothing is refused the arguments are what `write_map` asks for (`map_clear`), and what it writes is the answer
 -- (`given`).
-use mathlib.Core.Path.{refl, sym}
+use mathlib.Core.Path.{◌≡◌, refl, sym}
+use mathlib.Core.List.{map}
+use lib.IntN.{pos}
 use lib.ListN.{length}
-use Rattle.planner.proofs.CallLaws.{given, given_valid}
+use Rattle.rank1.specs.Index.{index_list}
+use Rattle.rank1.specs.Sums.{residue_map}
+use Rattle.planner.proofs.CallLaws.{given, given_valid, of_arguments}
 use Rattle.planner.proofs.refusals.HandedLaws.{MapHanded, map_clear}
 use Rattle.planner.proofs.residue_map.Goals as goal
 use Rattle.planner.proofs.residue_map.Goals.{In_ok-rows}
@@ -24,11 +28,6 @@ write_map-requires c =
 
 pub returns : goal.returns
 returns c =
-    let g = c.in_ok-rows.ensures.given in
-    let named = rw g.plans at c.write_map.ensures in
-    let counted = rw g.axes at named in
-    let m = c.of-lattice.ensures.made in
-    let listed = rw g.numbers at counted in
-    let modulus = rw m.0 at listed in
-    let wrote = rw m.1 at modulus in
+    let wrote = of_arguments (λ plan d xs n z. c.write_map.new.out ≡ residue_map plan n (map pos z) (index_list d xs))
+    c.in_ok-rows.ensures.given c.of-lattice.ensures.made c.write_map.ensures in
     given c.in_ok-rows.ensures.number refl wrote

@@ -12,18 +12,18 @@ use lib.ListN.{length, get_or, take, drop, length-map, length-drop, get_or-map}
 use lib.Seq.{length-take-le, get_or-take, get_or-drop}
 use Rattle.rank1.specs.Tests.{Decides}
 use Rattle.rank1.specs.Residue.{dot, residue_at}
-use Rattle.rank1.specs.Index.{zero_row, mirrors, row_count, index_list}
+use Rattle.rank1.specs.Index.{mirrors, row_count, index_list}
 use Rattle.rank1.specs.declared.Plan.{Plan}
 use Rattle.rank1.specs.declared.Plan.TheVariants as plans
 use Rattle.rank1.specs.Named.{plan_number}
-use Rattle.rank1.specs.Rule.{Integrates, Reconstructs, PlanB, PlanC, Admissible}
+use Rattle.rank1.specs.Rule.{Reconstructs, PlanB, PlanC, Admissible}
 use Rattle.rank1.specs.Valid.{Distinct, Nonnegative}
 use Rattle.rank1.proofs.ResidueLaws.{residue-lt}
 use Rattle.rank1.proofs.CountingLaws.{rule_reconstructs}
 use Rattle.rank1.proofs.Distinct.{member_at, place_of, distinct_at}
 use Rattle.rank1.proofs.Order.{compared}
 use Rattle.rank1.proofs.MirrorLaws.{mirror_self, mirrors_first, mirrors_distinct, same_row_lem}
-use Rattle.rank1.proofs.IndexLaws.{row_at_lem, rows-length, row_in}
+use Rattle.rank1.proofs.IndexLaws.{row_at_lem, rows-length}
 use Rattle.planner.specs.Inner.{Ready, Owners, Recorded, residue_of, clash}
 use Rattle.planner.proofs.rule.OwnerLaws.{Unowned, AllApart, decides_yes, decides_no, owners_clash, owners_apart, owner_free, owner_forbids}
 
@@ -46,17 +46,6 @@ module _ (ks : List (List ℤ)) (n : ℕ) (z : List ℤ) where
 
   abbrev pub mirror : ℕ → ℕ → List ℤ
   mirror i t = get_or (mirrors (row i)) t []
-
-  -- ---- plan 0, of one row and of all
-  abbrev pub RowIntegrates : ℕ → Type 0
-  RowIntegrates a = row a ≢ zero_row (length (row a)) → row_residue a ≢ 0
-
-  pub integrates-rows : Integrates ks n z ↔ ((a : ℕ) → a < length ks → RowIntegrates a)
-  unfolding Integrates
-  integrates-rows = (
-    (λ rule a l. rule (row a) (member_at ks [] a l)),
-    (λ rows k m. let p = place_of ks k [] m in subst (λ (s : List ℤ). s ≢ zero_row (length s) → residue_at n z s ≢ 0) p.is (rows p.index p.inside)),
-  )
 
   -- ---- plan 1
   pub reconstructs_rows : Distinct ks → Reconstructs ks n z ↔ AllApart row_residue (length ks)
@@ -149,17 +138,6 @@ module _ (d : ℕ) (xs : List ℤ) (i : ℕ) (l : i < row_count d xs) (k : List 
   -- so a number that is the residue of it is the residue of row i
   pub residue-number : (n : ℕ) (z : List ℕ) (r : ℕ) → r ≡ residue_at n (map pos z) k → r ≡ residue_of n z (index_list d xs) i
   residue-number n z r q = q ∙ ap (residue_at n (map pos z)) row_number
-
--- ---- plan 0
-module _ (d : ℕ) (xs : List ℤ) (n : ℕ) (z : List ℕ) (i : ℕ) (l : i < row_count d xs) (k : List ℤ) (e : k ≡ take d (drop (i * d) xs)) where
-  -- row i has a residue other than 0, or is the zero row
-  pub row-integrates : (k ≢ zero_row (length k) → residue_at n (map pos z) k ≢ 0) → RowIntegrates (index_list d xs) n (map pos z) i
-  row-integrates h = subst (λ (s : List ℤ). s ≢ zero_row (length s) → residue_at n (map pos z) s ≢ 0) (row_number d xs i l k e) h
-
-  -- row i breaks the rule
-  pub row_breaks : k ≢ zero_row (length k) → residue_at n (map pos z) k ≡ 0 → Integrates (index_list d xs) n (map pos z) → ⊥
-  unfolding Integrates
-  row_breaks some zero-residue rule = rule k (mathlib.Core.List.Memᴰ.cast e (row_in d (row_count d xs) xs i l)) some zero-residue
 
 -- ---- recording the owners
 module _ (d : ℕ) (xs : List ℤ) (n : ℕ) (z table : List ℕ) (ready : Ready d xs n z table) (owners : List ℕ) where

@@ -6,20 +6,19 @@ use mathlib.Core.Logic.Iff
 use mathlib.Core.Logic.{◌↔◌, ◌≢◌, ⊎_elim}
 use mathlib.Core.List.Memᴰ
 use mathlib.Core.List.{List, [], ◌∷◌, ◌++◌, map, map-append, Memᴰ}
-use Prim.Native.Nat.{ℕ, suc, ◌+◌, ◌*◌, ◌<◌, ◌≤◌}
+use Prim.Native.Nat.{ℕ, ◌+◌, ◌<◌}
 use native.Mathlib.Numerals.{add-one}
 use native.Mathlib.Omega.{arith}
 use lib.IntN.{ℤ, pos}
-use lib.ListN.{length, get_or, take, drop, set, drop_of_length-le}
+use lib.ListN.{length, get_or, drop, set}
 use lib.Seq.{drop-cons, get_or-set_same, get_or-set_other}
 use Rattle.rank1.specs.Residue.{dot, residue_at}
-use Rattle.rank1.specs.Index.{mirrors, mirrored, row_count, index_list}
+use Rattle.rank1.specs.Index.{mirrors, mirrored, index_list}
 use Rattle.rank1.specs.Rule.{PlanA}
 use Rattle.rank1.specs.Valid.{Distinct, Nonnegative}
 use Rattle.rank1.proofs.ResidueLaws.{residue-lt}
 use Rattle.rank1.proofs.Distinct.{distinct_map, map_distinct, member_at}
 use Rattle.rank1.proofs.MirrorLaws.{mirrored_distinct}
-use Rattle.rank1.proofs.IndexLaws.{rows-length, rows-drop-cons}
 use Rattle.planner.specs.Inner.{Ready, Clear}
 
 -- ---- numbers that are different and free: none of them is taken in the table
@@ -85,63 +84,35 @@ unfolding PlanA
 plan_a ks n z d = (distinct_map (residue_at n z) (mirrored ks) d, map_distinct (residue_at n z) (mirrored ks))
 
 -- ---- the residues that are left to pass
-module _ (d : ℕ) (xs : List ℤ) (n : ℕ) (z : List ℕ) where
-  -- row i
-  abbrev pub row_of : ℕ → List ℤ
-  row_of i = take d (drop (i * d) xs)
+module _ (n : ℕ) (z : List ℕ) where
+  -- those of the mirrors of the rows that are left
+  abbrev pub rows_left : List (List ℤ) → List ℕ
+  rows_left ks = residues_of n z (mirrored ks)
 
-  -- those of the mirrors of the rows from i on
-  abbrev pub rows_left : ℕ → List ℕ
-  rows_left i = residues_of n z (mirrored (drop i (index_list d xs)))
-
-  -- those of the mirrors of row i from t on, and of the rows behind it
-  abbrev pub mirrors_left : ℕ → ℕ → List ℕ
-  mirrors_left i t = drop t (residues_of n z (mirrors (row_of i))) ++ rows_left (i + 1)
+  -- those of `out`, the mirrors of a row, from t on, and of the rows behind it
+  abbrev pub mirrors_left : List ℕ → ℕ → List (List ℤ) → List ℕ
+  mirrors_left out t ks = drop t out ++ rows_left ks
 
   -- at the start, with no residue taken: the rule holds just where all residues are different and free
-  pub rows_start : (products table : List ℕ) → Ready d xs n z products → ((k : List ℤ) → Memᴰ k (index_list d xs) → Nonnegative k) → Clear n table → PlanA (index_list d xs) n (map pos z) ↔ Untaken table (rows_left 0)
-  rows_start products table r p e =
+  pub rows_start : (d : ℕ) (xs : List ℤ) (products table : List ℕ) → Ready d xs n z products → ((k : List ℤ) → Memᴰ k (index_list d xs) → Nonnegative k) → Clear n table → PlanA (index_list d xs) n (map pos z) ↔ Untaken table (rows_left (index_list d xs))
+  rows_start d xs products table r p e =
       Iff.trans
       (plan_a (index_list d xs) n (map pos z) (mirrored_distinct (index_list d xs) r.different p))
-      (free_all n table (rows_left 0) e (residues_below n z (mirrored (index_list d xs)) r.modulus.low))
-
-  -- a row begins: its mirrors come first
-  pub row_begins : (i : ℕ) → i < row_count d xs → rows_left i ≡ mirrors_left i 0
-  row_begins i l =
-      ap (λ (ks : List (List ℤ)). residues_of n z (mirrored ks))
-      (rows-drop-cons d (row_count d xs) xs i l ∙ ap (λ (k : ℕ). row_of i ∷ drop k (index_list d xs)) (sym (add-one i)))
-      ∙ map-append (residue_at n (map pos z)) (mirrors (row_of i)) (mirrored (drop (i + 1) (index_list d xs)))
+      (free_all n table (rows_left (index_list d xs)) e (residues_below n z (mirrored (index_list d xs)) r.modulus.low))
 
   -- the next residue to pass is r
-  pub record Next (i t r : ℕ) : Type 0 where
+  pub record Next (out : List ℕ) (ks : List (List ℤ)) (t r : ℕ) : Type 0 where
     pub below : r < n
-    pub next : mirrors_left i t ≡ r ∷ mirrors_left i (t + 1)
+    pub next : mirrors_left out t ks ≡ r ∷ mirrors_left out (t + 1) ks
 
-  -- where `out` has the residues of the row's mirrors
-  module _ (i : ℕ) (k : List ℤ) (out : List ℕ) (e : k ≡ row_of i) (h : out ≡ residues_of n z (mirrors k)) where
-    -- they are left at the start of the row
-    same : residues_of n z (mirrors (row_of i)) ≡ out
-    same = ap (λ (j : List ℤ). residues_of n z (mirrors j)) (sym e) ∙ sym h
+  module _ (k : List ℤ) (ks : List (List ℤ)) (out : List ℕ) (h : out ≡ residues_of n z (mirrors k)) where
+    -- a row begins: its mirrors come first
+    pub row_begins : rows_left (k ∷ ks) ≡ mirrors_left out 0 ks
+    row_begins = map-append (residue_at n (map pos z)) (mirrors k) (mirrored ks) ∙ ap (λ (ys : List ℕ). ys ++ rows_left ks) (sym h)
 
     -- the next one stands at place t
-    pub mirror-next : (t : ℕ) → 0 < n → t < length out → Next i t (get_or out t 0)
+    pub mirror-next : (t : ℕ) → 0 < n → t < length out → Next out ks t (get_or out t 0)
     mirror-next t p l = record {
       below = residues_below n z (mirrors k) p (get_or out t 0) (subst (Memᴰ (get_or out t 0)) h (member_at out 0 t l));
-      next =
-          ap (λ (ys : List ℕ). drop t ys ++ rows_left (i + 1)) same
-          ∙ ap (λ (ys : List ℕ). ys ++ rows_left (i + 1)) (drop-cons out t 0 l)
-          ∙ ap (λ (ys : List ℕ). get_or out t 0 ∷ (drop (suc t) ys ++ rows_left (i + 1))) (sym same)
-          ∙ ap (λ (u : ℕ). get_or out t 0 ∷ mirrors_left i u) (sym (add-one t));
+      next = ap (λ (ys : List ℕ). ys ++ rows_left ks) (drop-cons out t 0 l) ∙ ap (λ (u : ℕ). get_or out t 0 ∷ mirrors_left out u ks) (sym (add-one t));
     }
-
-    -- a row ends: the rows behind it are left
-    pub row_ends : (t : ℕ) → length out ≤ t → mirrors_left i t ≡ rows_left (i + 1)
-    row_ends t l =
-        ap (λ (ys : List ℕ). drop t ys ++ rows_left (i + 1)) same
-        ∙ ap (λ (ys : List ℕ). ys ++ rows_left (i + 1)) (drop_of_length-le out {i = t} l)
-
-  -- behind the last row nothing is left
-  pub rows_end : (i : ℕ) → row_count d xs ≤ i → rows_left i ≡ []
-  rows_end i l =
-      ap (λ (ks : List (List ℤ)). residues_of n z (mirrored ks))
-      (drop_of_length-le (index_list d xs) {i = i} (omega (arith, rows-length d (row_count d xs) xs)))

@@ -5,8 +5,12 @@ use native.Mathlib.Omega.{arith}
 use borrow.Author.Rules.{rules}
 use lib.ListN.{length}
 use Rattle.rank1.specs.Named.{number, refused}
+use Rattle.rank1.specs.Index.{index_list}
+use Rattle.rank1.specs.Rule.{Admissible}
 use Rattle.rank1.specs.Refusal.{search_refusal}
 use Rattle.rank1.proofs.NamedLaws.{number_some}
+use Rattle.planner.specs.Stage.{PlanBetween}
+use Rattle.planner.proofs.CallLaws.{of_given}
 use Rattle.planner.proofs.SearchCalls.{refused_list, refused_range, between_refused, between_valid, between_answered}
 use Rattle.planner.proofs.search_between.Goals as goal
 use Rattle.planner.proofs.search_between.Goals.{In_ok-range_refusal}
@@ -45,7 +49,6 @@ first_plan-requires c =
     let v = between_valid a.plan a.d a.rows.now a.low a.high a.z.now (none (goal.at.first_plan-requires c).In_ok-range_refusal) in
     let g = c.given-rows.ensures in (
       record {
-        plans = rw g.plans v.plans;
         list = rw g.plans (rw g.axes (rw g.numbers v.list));
         some = c.requires v.modulus.low;
         few = v.modulus.high;
@@ -57,8 +60,6 @@ first_plan-requires c =
 pub returns : goal.returns
 returns c =
     let a = c.args in
-    let g = c.given-rows.ensures in
-    let named = rw g.plans at c.first_plan.ensures in
-    let counted = rw g.axes at named in
-    let told = rw g.numbers at counted in
+    let told = of_given (λ plan d xs. PlanBetween (Admissible plan (index_list d xs)) d a.low a.high a.z.now c.first_plan.new.z c.first_plan.result)
+    c.given-rows.ensures c.first_plan.ensures in
     between_answered a.plan a.d a.rows.now a.low a.high a.z.now (none (goal.at.returns c).In_ok-range_refusal) _ c.first_plan.result told

@@ -1,18 +1,20 @@
 -- The sieve at the first axis: a number of periods of t is struck where a difference ends there with component t.
-use mathlib.Core.Path.{◌≡◌, ap, ◌∙◌}
+use mathlib.Core.Path.{◌≡◌, sym, ap, ◌∙◌}
 use mathlib.Core.Logic.{inl, inr, ⊎_elim}
+use mathlib.Core.Bool.{Bool, false, false≢true}
 use mathlib.Core.List.{List}
 use Prim.Native.Nat.{ℕ, suc, ◌+◌, ◌*◌, ◌%◌, ◌<◌}
 use native.Mathlib.Omega.{arith}
 use lib.ListN.{length, get_or}
 use Rattle.planner.specs.Sizes.{lasts}
-use Rattle.planner.specs.Sieve.{Steps, Marking, FirstForbidden, FirstBarred, AllFirstBarred}
+use Rattle.planner.specs.declared.tables.ModulusTables.{ModulusTables}
+use Rattle.planner.specs.Sieve.{Steps, Marking, SolutionsOf, Periods, FirstForbidden, FirstBarred, AllFirstBarred}
 use Rattle.planner.proofs.sieve.SolutionLaws.{zero_solves, steps_solve}
 
 module _ (n : ℕ) (bounds : List ℕ) where
   -- the multiples of a period are
   pub first-marked :
-      (t step : ℕ) (old new : List ℕ) → t < lasts → get_or bounds t 0 < get_or bounds (suc t) 0 → (t * step) % n ≡ 0 → Marking 0 step old new → FirstBarred n bounds old new
+      (t step : ℕ) (old new : List Bool) → t < lasts → get_or bounds t 0 < get_or bounds (suc t) 0 → (t * step) % n ≡ 0 → Marking 0 step old new → FirstBarred n bounds old new
   first-marked t step old new l some period m = record { size = m.size; reason = λ v h q. ⊎_elim inl (λ w. inr (forbidden v w)) (m.reason v q) }
     where
       forbidden : (v : ℕ) → Steps 0 step v → FirstForbidden n bounds v
@@ -29,5 +31,14 @@ module _ (n : ℕ) (bounds : List ℕ) where
           nothing v = omega arith
 
   -- from no mark at all
-  pub first_all : (old clean new : List ℕ) → length clean ≡ length old → ((v : ℕ) → v < n → get_or clean v 0 ≡ 0) → FirstBarred n bounds clean new → AllFirstBarred n bounds old new
-  first_all old clean new e none s = record { size = s.size ∙ e; reason = λ v l m. ⊎_elim (λ q. absurd (q (none v l))) (λ f. f) (s.reason v l m) }
+  pub first_all : (old clean new : List Bool) → length clean ≡ length old → ((v : ℕ) → v < n → get_or clean v false ≡ false) → FirstBarred n bounds clean new → AllFirstBarred n bounds old new
+  first_all old clean new e none s = record { size = s.size ∙ e; reason = λ v l m. ⊎_elim (λ q. absurd (false≢true (sym (none v l) ∙ q))) (λ f. f) (s.reason v l m) }
+
+-- the steps of the tables of solutions are periods
+pub periods : (n : ℕ) (M : ModulusTables) → SolutionsOf n M → Periods n M.steps
+periods n M s = record {
+  size = s.steps-size;
+  some = λ t step l e. (s.tables t step l e).right.some;
+  few = λ t step l e. (s.tables t step l e).right.few;
+  period = λ t step l e. (s.tables t step l e).right.period;
+}

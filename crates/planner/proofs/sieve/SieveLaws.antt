@@ -1,6 +1,7 @@
 -- What the sieve's code leans on: the sums of an axis set one by one, marks and why they stand, and a run as a part of the tables.
-use mathlib.Core.Path.{◌≡◌, sym, ◌∙◌, ap, subst}
+use mathlib.Core.Path.{◌≡◌, refl, sym, ◌∙◌, ap, subst}
 use mathlib.Core.Logic.{◌⊎◌, inl, inr, ⊎_elim}
+use mathlib.Core.Bool.{Bool, true, false}
 use mathlib.Core.List.{List}
 use Prim.Native.Nat.{ℕ, suc, ◌+◌, ◌*◌, ◌-◌, ◌%◌, ◌<◌, ◌≤◌}
 use native.Mathlib.Nat.{eq-or-lt_of_le}
@@ -9,12 +10,14 @@ use native.Mathlib.Omega.{arith}
 use lib.IntN.{ℤ, pos, nat_abs}
 use lib.ListN.{length, get_or, set, drop, length-set}
 use lib.Seq.{get_or-take, get_or-set_same, get_or-set_other}
+use mir.Syntax.{w16}
+use mir.Val.{to_z, of_z}
 use Rattle.planner.specs.Inner.{place}
 use Rattle.planner.specs.Sizes.{axes, largest_modulus, lasts, places, room, largest_size}
 use Rattle.planner.specs.declared.tables.ListTables.{ListTables}
 use Rattle.planner.specs.declared.tables.ModulusTables.{ModulusTables}
 use Rattle.planner.specs.Sieve.{Marked, Steps, Marking, Solutions, SolutionsSet, TableAt, Run, product, part, Solves, Struck, product_at, part_at, SumsSet, RunStart, Sievable, Forbidden, Barred, AllBarred, Sieved}
-use Rattle.planner.proofs.products.ProductLaws.{place-lt}
+use Rattle.planner.proofs.products.ProductLaws.{read_back, place-lt}
 use Rattle.planner.proofs.runs.RunLaws.{bounds_rise}
 use Rattle.planner.proofs.sieve.Parts.{cut, cut-size, cut_at, pasted, pasted-size, pasted-before, pasted_at}
 use Rattle.planner.proofs.sieve.SolutionLaws.{steps_solve, table_same}
@@ -49,20 +52,24 @@ module _ (n j : ℕ) (components : List ℤ) (products sums : List ℕ) (from : 
 
 -- ---- marks
 -- a value is marked after a mark at v if it was before or is v
-pub mark_cases : (marks : List ℕ) (v w : ℕ) → Marked (set marks v 1) w → (w ≡ v) ⊎ Marked marks w
+pub mark_cases : (marks : List Bool) (v w : ℕ) → Marked (set marks v true) w → (w ≡ v) ⊎ Marked marks w
 mark_cases marks v w m = go (ℕ_discrete w v)
   where
     go : Dec (w ≡ v) → (w ≡ v) ⊎ Marked marks w
     go (yes e) = inl e
-    go (no d) = inr (λ e. m (get_or-set_other marks v w 1 0 d ∙ e))
+    go (no d) = inr (sym (get_or-set_other marks v w true false d) ∙ m)
 
 -- a mark at a number of steps behind v
-pub marking_more : (v step : ℕ) (old new : List ℕ) (w : ℕ) → Steps v step w → Marking v step old new → Marking v step old (set new w 1)
-marking_more v step old new w why s = record { size = length-set new w 1 ∙ s.size; reason = λ x m. go x (mark_cases new w x m) }
+pub marking_more : (v step : ℕ) (old new : List Bool) (w : ℕ) → Steps v step w → Marking v step old new → Marking v step old (set new w true)
+marking_more v step old new w why s = record { size = length-set new w true ∙ s.size; reason = λ x m. go x (mark_cases new w x m) }
   where
     go : (x : ℕ) → (x ≡ w) ⊎ Marked new x → Marked old x ⊎ Steps v step x
     go x (inl e) = inr (subst (Steps v step) (sym e) why)
     go x (inr m) = s.reason x m
+
+-- a mark at v alone
+pub marked_alone : (v step : ℕ) (old : List Bool) → Marking v step old (set old v true)
+marked_alone v step old = marking_more v step old old v (0, omega arith) (record { size = refl; reason = λ w m. inl m })
 
 -- ---- the values that a run strikes
 module _ (n : ℕ) (sums : List ℕ) (components : List ℤ) (products : List ℕ) (t : ℕ) where
@@ -71,8 +78,17 @@ module _ (n : ℕ) (sums : List ℕ) (components : List ℤ) (products : List �
   solution_right solutions c i v s e b f o =
       ap (λ (x : ℕ). (x + t * v) % n) (sym e) ∙ ap (λ (x : ℕ). (c + t * x) % n) f ∙ s.right c b (subst (λ (x : ℕ). x < n) f o)
 
+  -- the part of difference i, as the code finds it from a sum and a component that it reads in turn
+  pub part_read :
+      (i c s : ℕ) (x : ℤ) → Run n sums components products → i < length sums → s ≡ get_or sums i 0 → x ≡ get_or components i (pos 0)
+      → c ≡ (s + get_or products (place (to_z w16 (of_z w16 x))) 0) % n → c ≡ part n sums components products i
+  part_read i c s x run l read same e =
+      e
+      ∙ ap (λ (y : ℤ). (s + get_or products (place y) 0) % n) (read_back x (rw same (run.small i l)) ∙ same)
+      ∙ ap (λ (r : ℕ). (r + product n sums components products i) % n) read
+
   -- the marks of all solutions for the part of difference i
-  pub struck_more : (old new newer solutions : List ℕ) (c i v step : ℕ) → SolutionsSet n t step solutions → i < length sums → c ≡ part n sums components products i → c < n → v ≡ get_or solutions c 0 → Marking v step new newer → Struck n sums components products t old new → Struck n sums components products t old newer
+  pub struck_more : (old new newer : List Bool) (solutions : List ℕ) (c i v step : ℕ) → SolutionsSet n t step solutions → i < length sums → c ≡ part n sums components products i → c < n → v ≡ get_or solutions c 0 → Marking v step new newer → Struck n sums components products t old new → Struck n sums components products t old newer
   struck_more old new newer solutions c i v step r l e b f m s = record { size = m.size ∙ s.size; reason = λ w o q. go w o (m.reason w q) }
     where
       go : (w : ℕ) → w < n → Marked new w ⊎ Steps v step w → Marked old w ⊎ Solves n sums components products t w
@@ -158,7 +174,7 @@ module _
         inner i l = omega (arith, run-size)
 
     -- what it strikes is forbidden
-    pub run_bars : (old new : List ℕ) → Struck n (cut begin end sums) (cut begin end T.components) (cut (j * places) (j * places + places) products) t old new → Barred n j T products sums old new
+    pub run_bars : (old new : List Bool) → Struck n (cut begin end sums) (cut begin end T.components) (cut (j * places) (j * places + places) products) t old new → Barred n j T products sums old new
     run_bars old new k = record { size = k.size; reason = λ v l m. go v (k.reason v l m) }
       where
         go : (v : ℕ) → Marked old v ⊎ Solves n (cut begin end sums) (cut begin end T.components) (cut (j * places) (j * places + places) products) t v → Marked old v ⊎ Forbidden n j T products sums v
@@ -183,21 +199,21 @@ table-cut n t start step r solutions e s =
 
 module _ (n j : ℕ) (T : ListTables) (products sums : List ℕ) where
   -- one run after others
-  pub barred_more : (old new newer : List ℕ) → Barred n j T products sums old new → Barred n j T products sums new newer → Barred n j T products sums old newer
+  pub barred_more : (old new newer : List Bool) → Barred n j T products sums old new → Barred n j T products sums new newer → Barred n j T products sums old newer
   barred_more old new newer s k = record { size = k.size ∙ s.size; reason = λ v l m. ⊎_elim (s.reason v l) inr (k.reason v l m) }
 
   -- the marks of one axis put back among all marks
-  pub sieved : (old marks : List ℕ) (k : ℕ) → suc j < axes → k ≡ suc n → n ≤ largest_modulus → length old ≡ suc (axes * largest_modulus) → length marks ≡ k → AllBarred n j T products sums marks → Sieved n j T products sums old (pasted ((j + 1) * largest_modulus) k old marks)
+  pub sieved : (old marks : List Bool) (k : ℕ) → suc j < axes → k ≡ suc n → n ≤ largest_modulus → length old ≡ suc (axes * largest_modulus) → length marks ≡ k → AllBarred n j T products sums marks → Sieved n j T products sums old (pasted ((j + 1) * largest_modulus) k old marks)
   sieved old marks k a e h size same s = record {
     size = pasted-size ((j + 1) * largest_modulus) k old marks fits same;
-    kept = λ i l. pasted-before ((j + 1) * largest_modulus) k old marks fits same 0 i (omega arith);
-    reason = λ v l m. s v l (λ z. m (stands v l ∙ z));
+    kept = λ i l. pasted-before ((j + 1) * largest_modulus) k old marks fits same false i (omega arith);
+    reason = λ v l m. s v l (sym (stands v l) ∙ m);
   }
     where
       fits : (j + 1) * largest_modulus + k ≤ length old
       fits = omega arith
 
-      stands : (v : ℕ) → v < n → get_or (pasted ((j + 1) * largest_modulus) k old marks) (suc j * largest_modulus + v) 0 ≡ get_or marks v 0
+      stands : (v : ℕ) → v < n → get_or (pasted ((j + 1) * largest_modulus) k old marks) (suc j * largest_modulus + v) false ≡ get_or marks v false
       stands v l =
-          ap (λ (i : ℕ). get_or (pasted ((j + 1) * largest_modulus) k old marks) (i + v) 0) (omega arith)
-          ∙ pasted_at ((j + 1) * largest_modulus) k old marks fits same 0 v (omega arith)
+          ap (λ (i : ℕ). get_or (pasted ((j + 1) * largest_modulus) k old marks) (i + v) false) (omega arith)
+          ∙ pasted_at ((j + 1) * largest_modulus) k old marks fits same false v (omega arith)

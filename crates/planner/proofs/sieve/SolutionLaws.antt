@@ -2,6 +2,7 @@
 use mathlib.Core.Path.{◌≡◌, sym, ◌∙◌, ap, subst}
 use mathlib.Core.Logic.{◌≢◌}
 use mathlib.Core.List.{List, ◌++◌}
+use Rattle.std.proofs.Common.{Option, Some, None}
 use Prim.Native.Nat.{ℕ, suc, ◌+◌, ◌*◌, ◌-◌, ◌%◌, ◌<◌, ◌≤◌}
 use native.Mathlib.Nat.{zero-add, zero-mul, zero-mod, mul-one, mul-add, mul_assoc, add-mod, add-mod-mod, mod-add-mod, add_assoc, mul-zero, mul-suc, mod_self}
 use native.Mathlib.Decide.{ℕ_discrete}
@@ -138,19 +139,24 @@ table_kept n t start at k step xs part l within size s = record {
     inner : start + n ≤ length (pasted at k xs part)
     inner = omega (arith, pasted-size at k xs part within size)
 
+-- the step where there is one
+abbrev step_of : Option ℕ → ℕ
+step_of (Some r) = r
+step_of None = 0
+
 -- one more table, of t, behind the others
 pub tables_more :
     (n t at k r : ℕ) (M : ModulusTables) (part : List ℕ) → t < lasts → k ≡ n → at + n ≤ solution_room → length part ≡ k → SolutionsSet n t r part
-    → TablesTo n at M → TablesTo n (at + n) (record { solutions = pasted at k M.solutions part; starts = set M.starts t at; steps = set M.steps t r })
+    → TablesTo n at M → TablesTo n (at + n) (record { solutions = pasted at k M.solutions part; starts = set M.starts t at; steps = set M.steps t (Some r) })
 tables_more n t at k r M part low e fits size new s = record {
   solved = record {
     wide = pasted-size at k M.solutions part within size ∙ s.solved.wide;
     starts_size = length-set M.starts t at ∙ s.solved.starts_size;
-    steps-size = length-set M.steps t r ∙ s.solved.steps-size;
-    tables = λ u l m. table u l m (ℕ_discrete u t);
+    steps-size = length-set M.steps t (Some r) ∙ s.solved.steps-size;
+    tables = λ u step l m. table u step l m (ℕ_discrete u t);
   };
   high = fits;
-  before = λ u l m. ends u l m (ℕ_discrete u t);
+  before = λ u step l m. ends u step l m (ℕ_discrete u t);
 }
   where
     within : at + k ≤ length M.solutions
@@ -159,21 +165,25 @@ tables_more n t at k r M part low e fits size new s = record {
     start_new : get_or (set M.starts t at) t 0 ≡ at
     start_new = get_or-set_same M.starts t at 0 (omega (arith, s.solved.starts_size))
 
-    step_new : get_or (set M.steps t r) t 0 ≡ r
-    step_new = get_or-set_same M.steps t r 0 (omega (arith, s.solved.steps-size))
+    step_new : get_or (set M.steps t (Some r)) t None ≡ Some r
+    step_new = get_or-set_same M.steps t (Some r) None (omega (arith, s.solved.steps-size))
 
-    table : (u : ℕ) → u < lasts → get_or (set M.steps t r) u 0 ≢ 0 → Dec (u ≡ t) → TableAt n u (get_or (set M.starts t at) u 0) (get_or (set M.steps t r) u 0) (pasted at k M.solutions part)
-    table u l m (yes q) =
-        subst (λ (w : ℕ). TableAt n w (get_or (set M.starts t at) w 0) (get_or (set M.steps t r) w 0) (pasted at k M.solutions part)) (sym q)
-        (rw (start_new, step_new) (table-pasted n t at k r M.solutions part e within size new))
-    table u l m (no q) =
-        rw (get_or-set_other M.starts t u at 0 q, get_or-set_other M.steps t u r 0 q)
-        (table_kept n u (get_or M.starts u 0) at k (get_or M.steps u 0) M.solutions part (s.before u l old) within size (s.solved.tables u l old))
-      where
-        old : get_or M.steps u 0 ≢ 0
-        old z = m (get_or-set_other M.steps t u r 0 q ∙ z)
+    -- the step of t is r, and of the others as it was
+    same : (u step : ℕ) → u ≡ t → get_or (set M.steps t (Some r)) u None ≡ Some step → r ≡ step
+    same u step q m = ap step_of (sym step_new ∙ ap (λ (w : ℕ). get_or (set M.steps t (Some r)) w None) (sym q) ∙ m)
 
-    ends : (u : ℕ) → u < lasts → get_or (set M.steps t r) u 0 ≢ 0 → Dec (u ≡ t) → get_or (set M.starts t at) u 0 + n ≤ at + n
-    ends u l m (yes q) = omega (arith, ap (λ (w : ℕ). get_or (set M.starts t at) w 0) q, start_new)
-    ends u l m (no q) =
-        omega (arith, get_or-set_other M.starts t u at 0 q, s.before u l (λ z. m (get_or-set_other M.steps t u r 0 q ∙ z)))
+    old : (u step : ℕ) → u ≢ t → get_or (set M.steps t (Some r)) u None ≡ Some step → get_or M.steps u None ≡ Some step
+    old u step q m = sym (get_or-set_other M.steps t u (Some r) None q) ∙ m
+
+    table : (u step : ℕ) → u < lasts → get_or (set M.steps t (Some r)) u None ≡ Some step → Dec (u ≡ t) → TableAt n u (get_or (set M.starts t at) u 0) step (pasted at k M.solutions part)
+    table u step l m (yes q) =
+        subst (λ (w : ℕ). TableAt n w (get_or (set M.starts t at) w 0) step (pasted at k M.solutions part)) (sym q)
+        (rw start_new (subst (λ (x : ℕ). TableAt n t at x (pasted at k M.solutions part)) (same u step q m) (table-pasted n t at k r M.solutions part e within size new)))
+    table u step l m (no q) =
+        rw (get_or-set_other M.starts t u at 0 q)
+        (table_kept n u (get_or M.starts u 0) at k step M.solutions part (s.before u step l (old u step q m)) within size (s.solved.tables u step l (old u step q m)))
+
+    ends : (u step : ℕ) → u < lasts → get_or (set M.steps t (Some r)) u None ≡ Some step → Dec (u ≡ t) → get_or (set M.starts t at) u 0 + n ≤ at + n
+    ends u step l m (yes q) = omega (arith, ap (λ (w : ℕ). get_or (set M.starts t at) w 0) q, start_new)
+    ends u step l m (no q) =
+        omega (arith, get_or-set_other M.starts t u at 0 q, s.before u step l (old u step q m))

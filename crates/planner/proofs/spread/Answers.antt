@@ -1,8 +1,12 @@
 -- `spread` meets its contract: where nothing is refused the arguments are what `write_sums` asks for (`spread_clear`), and what it writes is the answer
 -- (`given`).
-use mathlib.Core.Path.{refl, sym}
+use mathlib.Core.Path.{◌≡◌, refl, sym}
+use mathlib.Core.List.{map}
+use lib.IntN.{pos}
 use lib.ListN.{length}
-use Rattle.planner.proofs.CallLaws.{given, given_valid}
+use Rattle.rank1.specs.Index.{index_list}
+use Rattle.rank1.specs.Sums.{spread_sums}
+use Rattle.planner.proofs.CallLaws.{given, given_valid, of_arguments}
 use Rattle.planner.proofs.refusals.HandedLaws.{SpreadHanded, spread_clear}
 use Rattle.planner.proofs.spread.Goals as goal
 use Rattle.planner.proofs.spread.Goals.{In_ok-rows}
@@ -25,11 +29,6 @@ write_sums-requires c =
 
 pub returns : goal.returns
 returns c =
-    let g = c.in_ok-rows.ensures.given in
-    let named = rw g.plans at c.write_sums.ensures in
-    let counted = rw g.axes at named in
-    let m = c.of-lattice.ensures.made in
-    let listed = rw g.numbers at counted in
-    let modulus = rw m.0 at listed in
-    let wrote = rw m.1 at modulus in
-    record { answered = given c.in_ok-rows.ensures.number refl wrote.0; narrow = λ none. wrote.1 }
+    let wrote = of_arguments (λ plan d xs n z. c.write_sums.new.sums ≡ spread_sums plan n (map pos z) (index_list d xs) c.args.terms.now)
+    c.in_ok-rows.ensures.given c.of-lattice.ensures.made c.write_sums.ensures.0 in
+    record { answered = given c.in_ok-rows.ensures.number refl wrote; narrow = λ none. c.write_sums.ensures.1 }

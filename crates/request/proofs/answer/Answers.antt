@@ -6,5 +6,5 @@ use Rattle.request.proofs.answer.Goals as goal
 
 pub returns-then-out-answer : goal.returns-then-out-answer
 returns-then-out-answer c =
-    let answers = subst (AnswerTo c.args.text.now) (sym c.written-answer.ensures) c.write_answer.ensures in
+    let answers = subst (AnswerTo c.args.text.now) (sym c.written-answer.ensures) c.answered-writer.ensures in
     (c.written-answer.result.now, answers, c.if-out-answer.true, answer_short c.args.text.now c.written-answer.result.now answers, refl)

@@ -7,4 +7,4 @@ use Rattle.request.proofs.answer_whole.Goals as goal
 
 pub slice_bounds-copy_from_slice-end : goal.slice_bounds-copy_from_slice-end
 slice_bounds-copy_from_slice-end c =
-    omega (arith, ap length c.written-answer.ensures, answer_short c.args.text.now c.write_answer.new.writer c.write_answer.ensures)
+    omega (arith, ap length c.written-answer.ensures, answer_short c.args.text.now c.answered-writer.result c.answered-writer.ensures)

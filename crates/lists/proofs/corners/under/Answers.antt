@@ -1,25 +1,26 @@
 -- `corners::under` meets its contract: the two rows are as long as each other, and each component of the one is up to that of the other.
-use mathlib.Core.Path.{◌≡◌}
-use mathlib.Core.Bool.{true}
-use Prim.Native.Nat.{ℕ, ◌<◌}
-use borrow.Author.Rules.{rules}
-use lib.IntN.{pos}
-use lib.ListN.{length, get_or}
-use Rattle.std.proofs.iter.runs.Made.{chains}
+use Rattle.std.proofs.Common.{rules, tests, ◌≡◌, refl, ◌∙◌, ap, List, [], ◌∷◌, Bool, ◌&&◌, ℤ, length, zip, arith}
+use Rattle.std.specs.List.{list_all}
+use Rattle.std.proofs.lemmas.Iterator.{YieldsList-from_slice, YieldsList-from_zip}
+use Rattle.std.proofs.lemmas.Iterator.Search.{all_from_yields_List}
 use Rattle.rank1.specs.Corners.{from_zero, under}
-use Rattle.rank1.proofs.TestLaws.{fails_false, holds_true}
-use Rattle.rank1.proofs.UnderLaws.{under_places, places_under, under_apart}
-use Rattle.refusal.proofs.InputLaws.{same_test}
+use Rattle.rank1.proofs.UnderLaws.{under_apart}
 use Rattle.lists.proofs.corners.under.Goals as goal
+
+-- component by component
+under_zip : (k h : List ℤ) → length k ≡ length h → list_all (λ p. from_zero p.0 p.1) (zip k h) ≡ under k h
+under_zip [] [] e = refl
+under_zip [] (y ∷ h) e = absurd (omega arith)
+under_zip (x ∷ k) [] e = absurd (omega arith)
+under_zip (x ∷ k) (y ∷ h) e = ap (λ (b : Bool). from_zero x y && b) (under_zip k h (omega arith))
 
 pub returns-then-row-corner : goal.returns-then-row-corner
 returns-then-row-corner c =
     let k = c.args.row.now in
     let h = c.args.corner.now in
-    same_test c.all.result (under k h)
-    (λ e. under_places k h c.if-row-corner.true (λ j l. search (rules, chains)))
-    (λ e. fails_false (under k h)
-    (λ t. let up : (j : ℕ) → j < length k → from_zero (get_or k j (pos 0)) (get_or h j (pos 0)) ≡ true = places_under k h (holds_true (under k h) t) in search (rules, chains)))
+    all_from_yields_List (λ p. from_zero p.0 p.1) c.all.new.self _ c.all.result c.all.ensures.ran
+    (YieldsList-from_zip {s = c.zip.result} (YieldsList-from_slice k (search rules)) (YieldsList-from_slice h (search rules))) (λ x b q t. search (rules, tests))
+    ∙ under_zip k h c.if-row-corner.true
 
 pub returns-else-row-corner : goal.returns-else-row-corner
 returns-else-row-corner c =

@@ -1,64 +1,24 @@
--- `lower::list_steps` meets its contract: the next row and those behind it are the rows that are left.
-use mathlib.Core.Path.{◌≡◌, sym, subst}
-use mathlib.Core.Bool.{true≢false}
-use mathlib.Core.List.{List, ◌∷◌}
-use Prim.Native.Nat.{ℕ}
-use native.Mathlib.Omega.{arith}
-use borrow.Author.Rules.{rules}
-use lib.IntN.{ℤ}
-use lib.ListN.{length}
-use Rattle.std.specs.Slice.Iter.{chunks_exact_rest}
+-- `lower::list_steps` meets its contract: the chunks are the rows of the list (`chunk_rows`), and `row_steps` tells of each.
+use Rattle.std.proofs.Common.{rules, tests, refl, zero-le, List, [], ℤ, true, false, length}
+use Rattle.std.proofs.lemmas.Iterator.{cases_from_all}
+use Rattle.std.proofs.lemmas.Bool.{MatchBool-at_true, MatchBool-at_false}
 use Rattle.rank1.specs.Tests.{Decides}
 use Rattle.rank1.specs.Index.{index_list}
-use Rattle.rank1.proofs.IndexLaws.{index_front, index_short}
+use Rattle.refusal.proofs.ChunkLaws.{chunk_rows}
 use Rattle.lists.specs.Inner.{RowSteps}
-use Rattle.lists.proofs.lower.StepLaws.{AllStep, step_first, step_rest, step_both}
+use Rattle.lists.proofs.lower.StepLaws.{as_listed}
 use Rattle.lists.proofs.lower.list_steps.Goals as goal
-use Rattle.lists.proofs.lower.list_steps.Goals.{After-row_steps, In-Some}
-
-abbrev list : In-Some → List (List ℤ)
-list c = index_list c.args.d c.args.rows.now
-
-abbrev behind : In-Some → List (List ℤ)
-behind c = index_list c.args.d (chunks_exact_rest c.next.new.self)
-
--- the rows that are left, and whether those do of which the next one is the first
-next : (c : In-Some) → index_list c.args.d (chunks_exact_rest c.loop-row.row-iterator) ≡ c.in-Some.row.now ∷ behind c
-next c =
-    let e = index_front c.args.d c.in-Some.row.now (chunks_exact_rest c.next.new.self) c.requires.0 (search rules) in
-    search (rules, e)
-
--- what the call says of the next one
-told : (c : After-row_steps) → Decides c.row_steps.result (RowSteps (index_list c.args.d c.args.rows.now) c.in-Some.row.now)
-told c =
-    let long : length c.in-Some.row.now ≡ c.args.d = search rules in
-    subst (λ (n : ℕ). Decides c.row_steps.result (RowSteps (index_list n c.args.rows.now) c.in-Some.row.now)) long c.row_steps.ensures
-
-pub returns-then-not-row_steps : goal.returns-then-not-row_steps
-returns-then-not-row_steps c =
-    let s = (goal.at.returns-then-not-row_steps c).In-Some in
-    record {
-      yes = λ e. absurd (true≢false (sym e));
-      no = λ e all. (told (goal.at.returns-then-not-row_steps c).After-row_steps).no c.if-not-row_steps.true
-          (step_first (list s) c.in-Some.row.now (behind s) (subst (AllStep (list s)) (next s) (c.loop-row.invariant.part all)));
-    }
-
-pub loop-row-preserved : goal.loop-row-preserved
-loop-row-preserved c =
-    let s = (goal.at.loop-row-preserved c).In-Some in
-    let first = (told (goal.at.loop-row-preserved c).After-row_steps).yes c.if-not-row_steps.false in
-    record {
-      can_next = search rules;
-      is_finite = search rules;
-      size = search rules;
-      whole = λ rest. c.loop-row.invariant.whole (subst (AllStep (list s)) (sym (next s)) (step_both (list s) c.in-Some.row.now (behind s) first rest));
-      part = λ all. step_rest (list s) c.in-Some.row.now (behind s) (subst (AllStep (list s)) (next s) (c.loop-row.invariant.part all));
-    }
 
 pub returns : goal.returns
 returns c =
-    let none = index_short c.args.d (chunks_exact_rest c.loop-row.row-iterator) (search rules) in
+    let d = c.args.d in
+    let xs = c.args.rows.now in
+    let Here : List ℤ → Type 0 = λ k. RowSteps (index_list (length k) xs) k in
+    let told = cases_from_all _ _ c.all.result Here (λ k. Here k → ⊥) c.all.ensures.ran
+    (chunk_rows d c.requires.0 c.chunks_exact.result xs c.chunks_exact.ensures.size c.chunks_exact.ensures.rest)
+    (λ x q k. (search (rules, tests), let one : Decides true (Here x.now) = search (rules, tests) in one.yes refl))
+    (λ x q k. let one : Decides false (Here x.now) = search (rules, tests) in one.no refl) in
     record {
-      yes = λ e. c.loop-row.invariant.whole (subst (AllStep (index_list c.args.d c.args.rows.now)) (sym none) (λ i l. absurd (omega arith)));
-      no = λ e. absurd (true≢false e);
+      yes = λ e i l. (as_listed d c.requires.0 xs i l).0 (MatchBool-at_true _ _ e told i [] zero-le l);
+      no = λ e all. let one = MatchBool-at_false _ _ e told in one.2 [] ((as_listed d c.requires.0 xs one.0 one.1).1 (all one.0 one.1));
     }

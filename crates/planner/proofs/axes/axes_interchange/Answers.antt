@@ -1,12 +1,17 @@
--- `planner::axes::axes_interchange` meets its contract. The invariant: each row before t, exchanged, is listed; so all are
--- (rows-interchange).
-use native.Mathlib.Omega.{arith}
-use Rattle.rank1.specs.Index.{row_count}
-use Rattle.planner.proofs.axes.AxisLaws.{rows-interchange}
+-- `axes::axes_interchange` meets its contract: each row, exchanged, is listed.
+use Rattle.std.proofs.Common.{rules, tests}
+use mathlib.Core.List.{Memᴰ}
+use Rattle.std.specs.Bool.{⊤}
+use Rattle.std.proofs.lemmas.Iterator.{cases_from_all}
+use Rattle.rank1.specs.Axes.{swap}
+use Rattle.planner.specs.Lists.{rows_in}
+use Rattle.planner.proofs.RowLaws.{rows_yielded, all_have}
 use Rattle.planner.proofs.axes.axes_interchange.Goals as goal
 
 pub returns : goal.returns
 returns c =
-    let a = c.args in
-    let rows = a.rows.now in
-    λ _. rows-interchange rows.d (row_count rows.d rows.numbers.now) a.i a.j rows.numbers.now (λ t l. c.loop-t.invariant t (omega arith))
+    let rows = c.args.rows.now in
+    let ks = rows_in rows in
+    let road = rows_yielded rows.d rows.numbers.now c.requires.whole_rows.some_axes c.each.ensures.rest c.each.ensures.size in
+    all_have ks (λ k. Memᴰ (swap c.args.i c.args.j k) ks) (λ _. ⊤)
+    (cases_from_all _ _ _ (λ k. Memᴰ (swap c.args.i c.args.j k) ks) (λ _. ⊤) c.all.ensures.ran road (λ k f h. search (rules, tests)) (λ k f h. search (rules, tests)))

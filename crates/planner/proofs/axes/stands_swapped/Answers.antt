@@ -1,13 +1,18 @@
--- `planner::axes::stands_swapped` meets its contract: the row at which it stops is listed (swapped_listed).
-use mathlib.Core.Path.{sym, ◌∙◌}
-use native.Mathlib.Omega.{arith}
-use Rattle.rank1.specs.Index.{row_count}
-use Rattle.planner.proofs.axes.AxisLaws.{swapped_listed}
+-- `axes::stands_swapped` meets its contract: the row at which it stops is listed.
+use Rattle.std.proofs.Common.{rules, tests, subst, ◌≡◌, List, ℤ}
+use mathlib.Core.List.{Memᴰ}
+use Rattle.std.specs.Bool.{⊤}
+use Rattle.std.proofs.lemmas.Iterator.{cases_from_any}
+use Rattle.rank1.specs.Axes.{swap}
+use Rattle.planner.specs.Lists.{rows_in}
+use Rattle.planner.proofs.RowLaws.{rows_yielded, some_has}
 use Rattle.planner.proofs.axes.stands_swapped.Goals as goal
 
-pub returns-then-swapped_row_equal : goal.returns-then-swapped_row_equal
-returns-then-swapped_row_equal c =
-    let a = c.args in
-    let rows = a.rows.now in
-    λ _. swapped_listed rows.d (row_count rows.d rows.numbers.now) c.loop-t.t a.i a.j rows.numbers.now a.row.now (omega arith)
-    (sym c.row.ensures.0 ∙ c.swapped_row_equal.ensures c.if-swapped_row_equal.true)
+pub returns : goal.returns
+returns c =
+    let rows = c.args.rows.now in
+    let ks = rows_in rows in
+    let swapped = swap c.args.i c.args.j c.args.row.now in
+    let road = rows_yielded rows.d rows.numbers.now c.requires.whole_rows.0.some_axes c.each.ensures.rest c.each.ensures.size in
+    let cases = cases_from_any _ _ _ (λ k. k ≡ swapped) (λ _. ⊤) c.any.ensures.ran road (λ k f h. search (rules, tests)) (λ k f h. search (rules, tests)) in
+    λ e. let one = some_has ks (λ k. k ≡ swapped) (λ _. ⊤) cases e in subst (λ (k : List ℤ). Memᴰ k ks) one.holds one.listed

@@ -30,7 +30,6 @@ returns-clause-made c =
     let narrow : top ≤ largest_size = omega (arith, c.max.ensures, rows.ensures.narrow, found.ensures.narrow) in
     record {
       covers = covered_wider rows.result top list.numbers.now (omega (arith, c.max.ensures)) narrow rows.ensures;
-      flip-size = omega (arith, flips.auto.flips);
       flips_right = flips.ensures (rows_in list) made;
       differences = rows_found list.d t;
       sound = made.sound;

@@ -1,9 +1,10 @@
--- `moduli::first_modulus`: the moduli from low to below n fail, and the work serves the next (Ascending).
+-- `moduli::first_modulus`: the moduli from low to below n fail, and the work serves the next.
 use mathlib.Core.Path.{◌≡◌}
+use Prim.Native.Nat.{ℕ, ◌≤◌, ◌<◌}
 use lib.ListN.{length}
-use Rattle.planner.specs.Stage.{rule_of_task}
-use Rattle.planner.proofs.moduli.ModuliLaws.{Ascending}
+use Rattle.rank1.specs.Search.{Hopeless}
+use Rattle.planner.specs.Stage.{rule_of, Blank}
 use Rattle.planner.proofs.moduli.first_modulus.Given as goal
 
 abbrev pub invariant-loop-n : goal.invariant-loop-n
-invariant-loop-n l = Ascending (rule_of_task l.task) l.task.rows.d l.low l.n l.z l.work × (length l.best ≡ l.task.rows.d)
+invariant-loop-n l = Blank l.work × (l.low ≤ l.n) × ((m : ℕ) → l.low ≤ m → m < l.n → Hopeless (rule_of l.task.rows) l.task.rows.d m) × (length l.best ≡ l.task.rows.d)

@@ -4,6 +4,7 @@ use native.Mathlib.Omega.{arith}
 use Rattle.rank1.specs.Named.{plan_number}
 use Rattle.rank1.specs.Refusal.{least_refusal}
 use Rattle.lists.proofs.RecountLaws.{recount_kept}
+use Rattle.planner.proofs.rule.RuleIndex.{few_plans}
 use Rattle.planner.proofs.moduli.ModuliLaws.{all_counted, rest-run}
 use Rattle.planner.proofs.moduli.first_plan.Goals as goal
 
@@ -13,7 +14,7 @@ start_of-start-requires c =
     let rows = a.rows.now in
     let plan = plan_number rows.plan in
     let s = c.requires.0 in
-    ap (least_refusal plan) c.requires.1 ∙ recount_kept plan rows.d rows.numbers.now s.list s.plans
+    ap (least_refusal plan) c.requires.1 ∙ recount_kept plan rows.d rows.numbers.now s.list (few_plans rows.plan)
 
 pub returns-then-high-start : goal.returns-then-high-start
 returns-then-high-start c =
@@ -27,7 +28,7 @@ returns-then-high-start c =
 pub search_list-requires : goal.search_list-requires
 search_list-requires c =
     let s = c.requires.0 in
-    record { plans = s.plans; list = s.list; some = omega (arith, s.some, c.start_of-start.ensures); few = s.few; places_for_z = s.places_for_z }
+    record { list = s.list; some = omega (arith, s.some, c.start_of-start.ensures); few = s.few; places_for_z = s.places_for_z }
 
 pub returns : goal.returns
 returns c =

@@ -1,5 +1,5 @@
 -- `moduli::search_list`: the tables are those of the list; the vector is built in the first d of its places, which the call of
--- `run_moduli` leaves in front of the others.
+-- `first_modulus` leaves in front of the others.
 use mathlib.Core.Path.{◌≡◌, sym, ap, ◌∙◌, subst}
 use mathlib.Core.Bool.{Bool, false}
 use mathlib.Core.List.{List}

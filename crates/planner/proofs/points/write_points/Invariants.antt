@@ -1,5 +1,5 @@
 -- `points::write_points` meets its contract. The invariant: the first i lines stand at the front (`points_more`). There are no more of
--- them than n (`lines_few`), which is what `write_line` asks of a line's number.
+-- them than n, which is what `write_line` asks of a line's number.
 use Rattle.std.proofs.Common.{◌≡◌, ◌*◌, take}
 use Rattle.rank1.specs.Named.{plan_number}
 use Rattle.rank1.specs.Tests.{up_to}

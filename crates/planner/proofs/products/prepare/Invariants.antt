@@ -1,4 +1,4 @@
--- `products::prepare`: the products of the axes passed are set (`set_products`).
+-- `products::prepare`: the products of the axes passed are set.
 use Rattle.std.proofs.Common.{take}
 use Rattle.planner.specs.Inner.{Products}
 use Rattle.planner.proofs.products.prepare.Given as goal

@@ -1,45 +1,70 @@
 -- `rule::all_mirrors_apart` meets its contract. Both loops keep that the rule holds just where the residues left to pass are different and
--- free in the table (TakenLaws): the rows left for the outer loop, the mirrors of row i left besides for the inner one. A clash
+-- free in the table (TakenLaws): the rows left for the outer loop, the mirrors of the row left besides for the inner one. A clash
 -- refutes the rule, and at the end none is left.
-use Rattle.std.proofs.Common.{refl, sym, ◌∙◌, subst, ℕ, ◌+◌, List, arith, length-set}
+use Rattle.std.proofs.Common.{rules, refl, sym, ◌∙◌, ap, subst, ◌≡◌, ℕ, ◌+◌, List, ◌∷◌, arith, length-set}
 use mathlib.Core.Bool.{true≢false}
+use Rattle.std.specs.Slice.Iter.{chunks_exact_rest}
+use lib.IntN.{ℤ}
+use Rattle.rank1.specs.Index.{index_list}
+use Rattle.rank1.proofs.IndexLaws.{index_front, index_short}
 use Rattle.planner.specs.Inner.{Clear}
-use Rattle.planner.proofs.rule.TakenLaws.{Next, mirrors_left, rows_start, row_begins, mirror-next, rows_end, taken_more, taken_clash, taken_all}
+use Rattle.planner.proofs.RowLaws.{next_row}
+use Rattle.planner.proofs.rule.TakenLaws.{Next, rows_left, mirrors_left, rows_start, row_begins, mirror-next, taken_more, taken_clash, taken_all}
 use Rattle.planner.proofs.mirrors.MirrorResidues.{row-ready}
 use Rattle.planner.proofs.rule.all_mirrors_apart.Goals as goal
-use Rattle.planner.proofs.rule.all_mirrors_apart.Goals.{After-from-r}
+use Rattle.planner.proofs.rule.all_mirrors_apart.Goals.{In-Some, After-from-r}
 
--- where a residue r of row i has been read, r is the next residue to pass
-next : (c : After-from-r) → Next c.args.rows.now.d c.args.rows.now.numbers.now c.args.lattice.now.n c.args.lattice.now.z.now c.rows.i c.loop-r.r-index c.from-r.result
+-- the rows that are left, of which the next one is the first
+abbrev left : In-Some → List (List ℤ)
+left c = index_list c.args.rows.now.d (chunks_exact_rest c.next.new.self)
+
+front : (c : In-Some) → index_list c.args.rows.now.d (chunks_exact_rest c.rows.row-iterator) ≡ c.in-Some.row.now ∷ left c
+front c =
+    let e = index_front c.args.rows.now.d c.in-Some.row.now (chunks_exact_rest c.next.new.self) c.requires.ready.some_axes (search rules) in
+    search (rules, e)
+
+-- where a residue r of the row has been read, r is the next residue to pass
+next :
+    (c : After-from-r)
+    → Next c.args.lattice.now.n c.args.lattice.now.z.now c.mirror_residues-r-items.result.now (index_list c.args.rows.now.d (chunks_exact_rest c.next.new.self)) c.loop-r.r-index c.from-r.result
 next c =
-    let rows = c.args.rows.now in
     let lattice = c.args.lattice.now in
+    let behind = index_list c.args.rows.now.d (chunks_exact_rest c.next.new.self) in
     let out = c.mirror_residues-r-items in
-    subst (Next rows.d rows.numbers.now lattice.n lattice.z.now c.rows.i c.loop-r.r-index) (sym c.from-r.ensures)
-    (mirror-next rows.d rows.numbers.now lattice.n lattice.z.now c.rows.i c.row.result.now out.result.now c.row.ensures.0 out.ensures.0 c.loop-r.r-index c.requires.ready.modulus.low c.loop-r-test.true)
+    subst (Next lattice.n lattice.z.now out.result.now behind c.loop-r.r-index) (sym c.from-r.ensures)
+    (mirror-next lattice.n lattice.z.now c.in-Some.row.now behind out.result.now out.ensures.0 c.loop-r.r-index c.requires.ready.modulus.low c.loop-r-test.true)
 
 -- what is left behind it
 abbrev behind : After-from-r → List ℕ
-behind c = mirrors_left c.args.rows.now.d c.args.rows.now.numbers.now c.args.lattice.now.n c.args.lattice.now.z.now c.rows.i (c.loop-r.r-index + 1)
+behind c = mirrors_left c.args.lattice.now.n c.args.lattice.now.z.now c.mirror_residues-r-items.result.now (c.loop-r.r-index + 1) (index_list c.args.rows.now.d (chunks_exact_rest c.next.new.self))
 
 pub rows-init : goal.rows-init
 rows-init c =
     let rows = c.args.rows.now in
     let lattice = c.args.lattice.now in
     let empty = subst (λ (k : ℕ). Clear k c.clear.new.table) c.from.ensures c.clear.ensures in
-    (refl, omega arith, rows_start rows.d rows.numbers.now lattice.n lattice.z.now lattice.products.now c.clear.new.table c.requires.ready c.requires.nonnegative empty)
+    let all : chunks_exact_rest c.into_iter-row-iterator.result ≡ rows.numbers.now = search rules in (
+      refl,
+      omega arith,
+      rw all
+          (rows_start lattice.n lattice.z.now rows.d rows.numbers.now lattice.products.now c.clear.new.table c.requires.ready c.requires.nonnegative empty),
+      search rules,
+    )
 
 pub mirror_residues-r-items-requires : goal.mirror_residues-r-items-requires
 mirror_residues-r-items-requires c =
     let rows = c.args.rows.now in
     let lattice = c.args.lattice.now in
-    row-ready rows.d rows.numbers.now lattice.n lattice.z.now lattice.products.now c.rows.i c.requires.ready (omega arith) c.row.result.now c.row.ensures.0
+    let at = next_row rows.d rows.numbers.now _ c.requires.ready.some_axes (search rules) (search rules) c.rows.yielded _ c.rows.yielded_by _ _ _ c.in-Some.is c.next.ensures.steps in
+    row-ready rows.d rows.numbers.now lattice.n lattice.z.now lattice.products.now _ c.requires.ready at.0 c.in-Some.row.now at.1
 
 pub loop-r-init : goal.loop-r-init
 loop-r-init c =
-    let rows = c.args.rows.now in
     let lattice = c.args.lattice.now in
-    (c.rows.invariant.0, c.rows.invariant.1, rw (← row_begins rows.d rows.numbers.now lattice.n lattice.z.now c.rows.i (omega arith)) c.rows.invariant.2)
+    let here = (goal.at.loop-r-init c).In-Some in
+    let out = c.mirror_residues-r-items in
+    let begins = ap (rows_left lattice.n lattice.z.now) (front here) ∙ row_begins lattice.n lattice.z.now c.in-Some.row.now (left here) out.result.now out.ensures.0 in
+    (c.rows.invariant.0, c.rows.invariant.1, rw (← begins) c.rows.invariant.2)
 
 pub bounds-taken-r : goal.bounds-taken-r
 bounds-taken-r c = omega (arith, (next (goal.at.bounds-taken-r c).After-from-r).below, c.requires.ready.modulus.high)
@@ -56,13 +81,14 @@ loop-r-preserved c =
       taken_more l.taken _ l.invariant.2 (behind here) c.from-r.result (next here).next (omega (arith, l.invariant.1, (next here).below, c.requires.ready.modulus.high)) c.if-taken-r-ne0.false,
     )
 
-pub returns-after-rows : goal.returns-after-rows
-returns-after-rows c =
+pub returns-in-None : goal.returns-in-None
+returns-in-None c =
     let rs = c.rows in
     let rows = c.args.rows.now in
     let lattice = c.args.lattice.now in
+    let none = index_short rows.d (chunks_exact_rest rs.row-iterator) (search rules) in
     record {
-      yes = λ _. taken_all rs.taken _ rs.invariant.2 (rows_end rows.d rows.numbers.now lattice.n lattice.z.now rs.i (omega arith));
+      yes = λ _. taken_all rs.taken _ rs.invariant.2 (ap (rows_left lattice.n lattice.z.now) none);
       no = λ e. absurd (true≢false (sym rs.invariant.0 ∙ e));
     }
 

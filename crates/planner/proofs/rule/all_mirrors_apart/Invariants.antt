@@ -1,7 +1,9 @@
 -- `rule::all_mirrors_apart` meets its contract. Both loops keep that the rule holds just where the residues left to pass are different and
--- free in the table (TakenLaws): the rows left for the outer loop, the mirrors of row i left besides for the inner one. A clash
+-- free in the table (TakenLaws): the rows left for the outer loop, the mirrors of the row left besides for the inner one. A clash
 -- refutes the rule, and at the end none is left.
 use Rattle.std.proofs.Common.{◌≡◌, ◌↔◌, true, map, length, pos}
+use Rattle.std.specs.Slice.Iter.{chunks_exact_rest, chunks_exact_size}
+use Rattle.rank1.specs.Index.{index_list}
 use Rattle.rank1.specs.Rule.{PlanA}
 use Rattle.planner.specs.Sizes.{largest_modulus}
 use Rattle.planner.specs.Lists.{rows_in}
@@ -12,10 +14,11 @@ abbrev pub invariant-loop-r : goal.invariant-loop-r
 invariant-loop-r l =
     (l.apart ≡ true)
     × (length l.taken ≡ largest_modulus)
-    × (PlanA (rows_in l.rows) l.lattice.n (map pos l.lattice.z.now) ↔ Untaken l.taken (mirrors_left l.rows.d l.rows.numbers.now l.lattice.n l.lattice.z.now l.i l.r-index))
+    × (PlanA (rows_in l.rows) l.lattice.n (map pos l.lattice.z.now) ↔ Untaken l.taken (mirrors_left l.lattice.n l.lattice.z.now l.r-items l.r-index (index_list l.rows.d (chunks_exact_rest l.row-iterator))))
 
 abbrev pub invariant-rows : goal.invariant-rows
 invariant-rows l =
     (l.apart ≡ true)
     × (length l.taken ≡ largest_modulus)
-    × (PlanA (rows_in l.rows) l.lattice.n (map pos l.lattice.z.now) ↔ Untaken l.taken (rows_left l.rows.d l.rows.numbers.now l.lattice.n l.lattice.z.now l.i))
+    × (PlanA (rows_in l.rows) l.lattice.n (map pos l.lattice.z.now) ↔ Untaken l.taken (rows_left l.lattice.n l.lattice.z.now (index_list l.rows.d (chunks_exact_rest l.row-iterator))))
+    × (chunks_exact_size l.row-iterator ≡ l.rows.d)

@@ -14,4 +14,4 @@ invariant-loop-r l =
 abbrev pub invariant-rows : goal.invariant-rows
 invariant-rows l =
     (l.apart ≡ true)
-    × ((j : ℕ) → j < l.i → MirrorsFree (rows_in l.rows) l.lattice.n (map pos l.lattice.z.now) (plan_number l.rows.plan) j (length (mirrors (row (rows_in l.rows) l.lattice.n (map pos l.lattice.z.now) j))))
+    × ((j : ℕ) → j < length l.yielded → MirrorsFree (rows_in l.rows) l.lattice.n (map pos l.lattice.z.now) (plan_number l.rows.plan) j (length (mirrors (row (rows_in l.rows) l.lattice.n (map pos l.lattice.z.now) j))))

@@ -7,4 +7,4 @@ use Rattle.planner.proofs.rule.record_owners.Given as goal
 
 abbrev pub invariant-loop-i : goal.invariant-loop-i
 invariant-loop-i l =
-    (length l.owners ≡ largest_modulus) × Owners (residue_of l.lattice.n l.lattice.z.now (rows_in l.rows)) l.lattice.n l.i l.owners
+    (length l.owners ≡ largest_modulus) × Owners (residue_of l.lattice.n l.lattice.z.now (rows_in l.rows)) l.lattice.n (length l.yielded) l.owners

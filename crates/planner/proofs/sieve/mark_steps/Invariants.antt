@@ -1,4 +1,4 @@
--- `planner::mark_steps`: w is a number of steps behind v, and so is each mark.
+-- `sieve::mark_steps`: w is a number of steps behind v, and so is each mark.
 use Prim.Native.Nat.{◌-◌}
 use Rattle.planner.specs.Sieve.{Steps, Marking}
 use Rattle.planner.proofs.sieve.mark_steps.Given as goal

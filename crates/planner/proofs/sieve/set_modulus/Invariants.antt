@@ -1,4 +1,4 @@
--- `planner::set_modulus`: from no table at all, the tables set so far are right (`TablesTo`).
+-- `sieve::set_modulus`: from no table at all, the tables set so far are right (`TablesTo`).
 use Rattle.planner.specs.Sieve.{TablesTo}
 use Rattle.planner.proofs.sieve.set_modulus.Given as goal
 

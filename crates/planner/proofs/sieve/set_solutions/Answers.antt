@@ -1,4 +1,4 @@
--- `planner::set_solutions`: c is the residue of -t v, so v is a solution for it (`next_solves`).
+-- `sieve::set_solutions`: c is the residue of -t v, so v is a solution for it (`next_solves`).
 use mathlib.Core.Path.{◌≡◌, refl, sym, ◌∙◌, ap}
 use Prim.Native.Nat.{ℕ, ◌+◌, ◌*◌, ◌%◌, zero-le}
 use native.Mathlib.Nat.{mul-one, add-mod-mod, mod-lt, mul-mod_left}

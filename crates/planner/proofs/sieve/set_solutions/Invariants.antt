@@ -1,4 +1,4 @@
--- `planner::set_solutions`: c is the residue of -t v, so v is a solution for it (`next_solves`).
+-- `sieve::set_solutions`: c is the residue of -t v, so v is a solution for it (`next_solves`).
 use mathlib.Core.Path.{◌≡◌}
 use Prim.Native.Nat.{◌+◌, ◌*◌, ◌%◌, ◌<◌, ◌≤◌}
 use Rattle.planner.specs.Sieve.{Solutions}

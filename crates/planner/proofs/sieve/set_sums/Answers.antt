@@ -1,4 +1,4 @@
--- `planner::set_sums`: the sums before e are set (`sums_more`); those that are read stand before them and are as they were.
+-- `sieve::set_sums`: the sums before e are set (`sums_more`); those that are read stand before them and are as they were.
 use mathlib.Core.Path.{◌≡◌, ◌∙◌, ap}
 use Prim.Native.Nat.{ℕ, ◌+◌, ◌*◌, ◌%◌}
 use native.Mathlib.Omega.{arith}

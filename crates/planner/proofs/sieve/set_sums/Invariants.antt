@@ -1,4 +1,4 @@
--- `planner::set_sums`: the sums before e are set (`sums_more`); those that are read stand before them and are as they were.
+-- `sieve::set_sums`: the sums before e are set (`sums_more`); those that are read stand before them and are as they were.
 use Rattle.planner.specs.Sieve.{SumsSet}
 use Rattle.planner.proofs.sieve.set_sums.Given as goal
 

@@ -1,4 +1,4 @@
--- `sieve::sieve_first`: from no mark at all, each run's marks are forbidden (`first_more`).
+-- `sieve::sieve_first`: from no mark at all, each run's marks are forbidden (`FirstBarred`).
 use Rattle.planner.specs.Sieve.{FirstBarred}
 use Rattle.planner.proofs.sieve.sieve_first.Given as goal
 

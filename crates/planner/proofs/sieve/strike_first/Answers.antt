@@ -6,9 +6,9 @@ use lib.ListN.{get_or}
 use Rattle.planner.proofs.sieve.FirstSieve.{first-marked}
 use Rattle.planner.proofs.sieve.strike_first.Goals as goal
 
-pub returns-then-step-ne0 : goal.returns-then-step-ne0
-returns-then-step-ne0 c =
+pub returns-in-Some : goal.returns-in-Some
+returns-in-Some c =
     let a = c.args in
-    first-marked a.n a.bounds.now a.t (get_or a.steps.now a.t 0) a.struck.now c.mark_steps.new.struck c.requires.short
+    first-marked a.n a.bounds.now a.t c.in-Some.step a.struck.now c.mark_steps.new.struck c.requires.short
     (subst (λ (k : ℕ). get_or a.bounds.now a.t 0 < get_or a.bounds.now k 0) (add-one a.t) c.if-bounds-t.true)
-    (c.requires.periods.period a.t c.requires.short c.if-step-ne0.true) c.mark_steps.ensures
+    (c.requires.periods.period a.t c.in-Some.step c.requires.short c.in-Some.is) c.mark_steps.ensures

@@ -1,4 +1,5 @@
 -- `sieve::strike_run`: the run is a part of the tables (`run-ready`), and what it strikes is forbidden (`run_bars`).
+use native.Mathlib.Omega.{arith}
 use lib.ListN.{get_or}
 use Rattle.planner.proofs.sieve.SieveLaws.{run-ready, run_bars, table-cut}
 use Rattle.planner.proofs.sieve.strike_run.Goals as goal
@@ -10,7 +11,7 @@ strike-requires c =
       run =
           run-ready a.prefix.now.n a.prefix.now.before a.t a.list.now a.prefix.now.products.now a.prefix.now.sums.now a.modulus.now c.requires.sievable c.requires.t_lt_lasts.0 c.run_start-begin.result c.run_start-end.result c.run_start-begin.ensures c.run_start-end.ensures;
       solved =
-          table-cut a.prefix.now.n a.t (get_or a.modulus.now.starts a.t 0) (get_or a.modulus.now.steps a.t 0) c.from.result a.modulus.now.solutions c.from.ensures (c.requires.sievable.solved.tables a.t c.requires.t_lt_lasts.0 c.if-step-ne0.true);
+          table-cut a.prefix.now.n a.t (get_or a.modulus.now.starts a.t 0) c.in-Some.step c.from.result a.modulus.now.solutions c.from.ensures (c.requires.sievable.solved.tables a.t c.in-Some.step c.requires.t_lt_lasts.0 c.in-Some.is);
       inside = c.requires.t_lt_lasts.1;
     }
 
@@ -20,3 +21,16 @@ returns-then-begin-end c =
     let struck = c.strike in
     run_bars a.prefix.now.n a.prefix.now.before a.t a.list.now a.prefix.now.products.now a.prefix.now.sums.now a.modulus.now c.requires.sievable c.requires.t_lt_lasts.0
     c.run_start-begin.result c.run_start-end.result c.run_start-begin.ensures c.run_start-end.ensures a.struck.now struck.new.struck struck.ensures
+
+-- the table of solutions stands among the numbers
+pub overflow_add-stop : goal.overflow_add-stop
+overflow_add-stop c =
+    omega (arith, (c.requires.sievable.solved.tables c.args.t c.in-Some.step c.requires.t_lt_lasts.0 c.in-Some.is).inside)
+
+pub offset_bounds-modulus-start : goal.offset_bounds-modulus-start
+offset_bounds-modulus-start c =
+    omega (arith, (c.requires.sievable.solved.tables c.args.t c.in-Some.step c.requires.t_lt_lasts.0 c.in-Some.is).inside)
+
+pub slice_bounds-strike-end : goal.slice_bounds-strike-end
+slice_bounds-strike-end c =
+    omega (arith, (c.requires.sievable.solved.tables c.args.t c.in-Some.step c.requires.t_lt_lasts.0 c.in-Some.is).inside)

@@ -1,4 +1,4 @@
--- `planner::strike_steps`: the marks of a turn are solutions of a difference of the run (`struck_more`).
+-- `sieve::strike_steps`: the marks of a turn are solutions of a difference of the run (`struck_more`).
 use Rattle.planner.specs.Sieve.{Struck}
 use Rattle.planner.proofs.sieve.strike_steps.Given as goal
 

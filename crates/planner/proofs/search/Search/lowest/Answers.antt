@@ -7,4 +7,4 @@ pub loop-i-preserved : goal.loop-i-preserved
 loop-i-preserved c =
     let a = c.args in
     let l = c.loop-i in
-    lowest_more a.self.start a.swaps.now a.at a.z.now l.low l.i c.raised-low.result (omega arith) c.raised-low.ensures l.invariant
+    lowest_more a.self.now a.at a.z.now l.low l.i c.raised-low.result (omega arith) c.raised-low.ensures l.invariant

@@ -3,4 +3,4 @@ use Rattle.planner.specs.Stage.{Lowest}
 use Rattle.planner.proofs.search.Search.lowest.Given as goal
 
 abbrev pub invariant-loop-i : goal.invariant-loop-i
-invariant-loop-i l = Lowest l.self.start l.swaps l.at l.z l.low
+invariant-loop-i l = Lowest l.self l.at l.z l.low

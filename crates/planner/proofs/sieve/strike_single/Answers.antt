@@ -1,0 +1,19 @@
+-- `sieve::strike_single`: the mark of a turn is a solution of a difference of the run (`struck_more`), or mark n.
+use Rattle.std.proofs.Common.{rules, true, ℕ, length, get_or, set, pos, ap, ◌∙◌}
+use Rattle.std.proofs.lemmas.Slice.Zip.{zip_turn}
+use Rattle.planner.proofs.sieve.SieveLaws.{marked_alone, part_read, struck_more}
+use Rattle.planner.proofs.sieve.strike_single.Goals as goal
+
+pub loop-sum-preserved : goal.loop-sum-preserved
+loop-sum-preserved c =
+    let a = c.args in
+    let r = a.run.now in
+    let l = c.loop-sum in
+    let p = c.part_of-c in
+    let i = length l.yielded in
+    let v = c.from-in-loop-sum.result in
+    let turn = zip_turn r.sums.now r.components.now l.yielded c.into_iter-sum-iterator.result l.sum-iterator c.next.new.self c.next.result (search rules) (search rules) l.yielded_by (c.in-Some.sum, c.in-Some.x) c.in-Some.is c.next.ensures.steps in
+    struck_more a.n r.sums.now r.components.now r.products.now a.t a.struck.now l.struck (set l.struck v true) a.solutions.now
+    p.result i v a.n c.requires.solved turn.0
+    (part_read a.n r.sums.now r.components.now r.products.now a.t i p.result c.in-Some.sum.now c.in-Some.x.now c.requires.run turn.0 (turn.2 0) (turn.3 (pos 0)) p.ensures.0) p.ensures.1
+    (c.from-in-loop-sum.ensures ∙ ap (λ (x : ℕ). get_or a.solutions.now x 0) c.from.ensures) (marked_alone v a.n l.struck) l.invariant
