@@ -324,4 +324,5 @@ def main():
             file.write(page(given.before, (requested, full, forced, by_rows, by_axes)))
 
 
-main()
+if __name__ == "__main__":
+    main()

@@ -71,8 +71,9 @@ def by_itself(message):
     return bool(FACT_FAILS.match(message)) and not OPEN_STEP.search(message)
 
 
-# What a log says of a goal that is left to `search`: of which function is only said at the end of what belongs to it.
-OPEN_GOAL = re.compile(r"note: (?:\./)?src/\S+:\d+:\d+: it is not proved that .*\(`([^`]+)`\)(.*)")
+# What a log says of a goal that is left to `search`, or of what a type keeps (`invariant_of-..`): of which function is only said at the end
+# of what belongs to it.
+OPEN_GOAL = re.compile(r"note: (?:\./)?src/\S+:\d+:\d+: (?:it is not proved that .*\(`([^`]+)`\)|`search` found no proof \(`(invariant_of-[^`]+)`\))(.*)")
 FUNCTION = re.compile(r"fn (\S+): (?:not proved|no proof)(.*)")
 FALSE_THERE = "the facts known there allow values at which this goal is false"
 
@@ -87,7 +88,7 @@ def left_open(log):
     for line in log.split("\n"):
         goal, function = OPEN_GOAL.match(line), FUNCTION.match(line)
         if goal:
-            goals.append((goal[1], FALSE_THERE in goal[2]))
+            goals.append((goal[1] or goal[2], FALSE_THERE in goal[3]))
         elif line.startswith("fn "):
             if function and "it calls" not in function[2]:
                 is_gone = function[1].split("::", 1)[-1].replace("::", "/") in gone
@@ -217,7 +218,8 @@ class Crate:
         self.key, self.free, self.lock, self.turn, self.is_proved = made, [], threading.Lock(), threading.Semaphore(jobs), None
 
     def copy(self):
-        """A copy that no check works in at the moment. Its folder out/ keeps what checks there proved."""
+        """A copy that no check works in at the moment. Its folders out/ begin with what `rt ci` proved here, and keep what checks there prove:
+        what the checker finds there serves it only for the very same declarations, so nothing old can stand for something new."""
         try:
             return self.free.pop()
         except IndexError:
@@ -230,6 +232,9 @@ class Crate:
                 to = os.path.join(top, os.path.relpath(path, ROOT))
                 os.makedirs(os.path.dirname(to), exist_ok=True)
                 shutil.copyfile(path, to)
+            kept = os.path.join(ROOT, "crates", crate, "out")
+            if os.path.isdir(kept):
+                shutil.copytree(kept, os.path.join(top, "crates", crate, "out"), symlinks=True)
         return top
 
     def check(self, folder, words):

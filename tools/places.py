@@ -18,11 +18,19 @@ FUNCTION = re.compile(r"^( *)(?:pub(?:\(crate\))? )?(?:extern \"C\" )?fn (\w+)(?
 ENUM = re.compile(r"^(?:pub(?:\(crate\))? )?enum (\w+) \{\n(.*?)^\}", re.S | re.M)
 STRUCT = re.compile(r"^(?:pub(?:\(crate\))? )?struct (\w+)(?:<[^>]*>)? \{\n(.*?)^\}", re.S | re.M)
 
-# Parameters that travel together: a function that takes two of a group takes it apart.
+# Parameters that travel together: a function that takes two of a group takes it apart. A place that C lends for the one number that a call
+# finds, `found: &mut u16`, is of no group.
 GROUPS = (("plan", "d", "rows"), ("n", "z", "products"), ("members", "owners"), ("found", "slots"), ("heads", "links"),
           ("levels", "sizes"), ("components", "bounds"), ("solutions", "starts", "steps"), ("sums", "products", "struck"),
-          ("text", "at"), ("out", "at"), ("m", "size", "zero"))
-SENTINEL = re.compile(r"\b(?:0|SLOTS|the end|n|ROOM|1|512)(?:,? where| of none|;? for none)|a number above 512|\+ 1 for no room|SOLUTION_ROOM \+ 1")
+          ("text", "at"), ("out", "at"), ("m", "size", "zero"),
+          ("rows", "lattice"), ("members", "rows"), ("members", "found"), ("d", "found"), ("low", "high"), ("row", "owner"), ("z", "work"),
+          ("at", "work"), ("list", "modulus"), ("s", "t"), ("i", "j"), ("n", "struck"))
+# The same of which all must be there: two of them alone are another group's.
+WHOLE_GROUPS = (("rows", "n", "z"),)
+MARK = re.compile(r"(?:swaps|flips|marks?|struck): (?:&(?:mut )?)?\[?u8|taken: (?:&(?:mut )?)?\[u16")
+# Tables of numbers one of which stands for none, as parameters and as fields; the owners of members are not among them, since each has one.
+NONE_TABLE = re.compile(r"\b(?:slots|heads|links|owners|taken|solutions|steps): (?:&(?:mut )?)?\[(?:u16|u32|usize)")
+SENTINEL = re.compile(r"\b(?:0|SLOTS|the end|n|ROOM|1|512)(?:,? where| of none|;? for none)|a number above 512|\+ 1 for no room|SOLUTION_ROOM \+ 1|belongs to none")
 BY_HAND = re.compile(r"(?:same_\w+|copy|copy_row|clear|clear_\w+|wide|wide32|long|largest|largest_of|largest_last|larger|comes_before|is_gentler|negate|"
                      r"size_of|set_none|set_minus|some_at_least|occurs|end_of|is_digit|stands_at|write_bytes|one_more|one_less|zeros_of|ends_by|tally_of)")
 
@@ -48,11 +56,13 @@ def places(name, text):
     for m in STRUCT.finditer(text):
         if re.search(r"^ *(?:pub(?:\(crate\))? )?(?:whole|found|is_\w+): bool", m[2], re.M):
             yield "1 a flag with a value", m.start(), m.end(), m[1]
+        if NONE_TABLE.search(m[2]) and m[1] != "Members":
+            yield "1 tables with a number for none", m.start(), m.end(), m[1]
     for m in FUNCTION.finditer(text):
         indent, fn, inside, result = m.groups()
         end = text.find("\n" + indent + "}\n", m.end())
         params = [p.strip() for p in re.split(r",(?![^<\[(]*[>\])])", inside) if p.strip()]
-        names = [p.split(":")[0].replace("mut ", "").strip() for p in params]
+        names = [p.split(":")[0].replace("mut ", "").strip() for p in params if not re.match(r"found: &mut u", p)]
         comment = text[:m.start()].rsplit("\n\n", 1)[-1]
         if result == "u8" and "byte" not in comment:
             yield "1 numbers for refusals", m.start(), end, fn
@@ -60,12 +70,17 @@ def places(name, text):
             yield "1 numbers for plans", m.start(), end, fn
         if result in ("usize", "u16", "u32") and SENTINEL.search(comment):
             yield "1 numbers for none", m.start(), end, fn
-        if any(re.search(r"^(?:swaps|flips|mark): (?:&(?:mut )?\[)?u8", p) for p in params):
+        if any(MARK.match(p) for p in params):
             yield "1 marks as numbers", m.start(), end, fn
+        if any(NONE_TABLE.match(p) and not ("owners" in p and "members" in names) for p in params):
+            yield "1 tables with a number for none", m.start(), end, fn
         if BY_HAND.fullmatch(fn):
             yield "4 functions that the library has", m.start(), end, fn
         for group in GROUPS:
             if len([g for g in group if g in names]) >= 2:
+                yield "5 parameters that travel together", m.start(), end, fn + " " + ",".join(group)
+        for group in WHOLE_GROUPS:
+            if all(g in names for g in group):
                 yield "5 parameters that travel together", m.start(), end, fn + " " + ",".join(group)
         if len(params) > 7:
             yield "5 more than seven parameters", m.start(), end, fn
@@ -133,4 +148,5 @@ def main():
             print("\n".join(lines[kind]))
 
 
-main()
+if __name__ == "__main__":
+    main()

@@ -1,6 +1,6 @@
 // The running tally for programs in C and Rust (document 02, b). The record goes in by value; what is found goes to lent places, one
 // for each of its numbers, which keep their content where the call is refused.
-// kept: a place for each number, and refusals and plans as numbers: the C interface passes them so.
+// kept: a place for each number, refusals and plans as numbers, and d and the rows apart: the C interface passes them so.
 
 ghost use Rattle.std.specs.Prelude.{◌≡◌};
 ghost use Rattle.rank1.specs.Named.{refused};
@@ -8,9 +8,10 @@ ghost use Rattle.lists.specs.Answer.{TallyCall, AddCall, LeastCall};
 ghost use Rattle.exports.specs.Numbers.{tally_of, places, numbers, place_or, Told, as_it_is};
 
 use crate::tell;
-use rank1::{Refusal, Tally, number_of};
+use rank1::{Refusal, Tally};
 
 // The record as it is handed in: `zero` is 0 for no, and any other number for yes.
+// kept: apart from Tally: from C zero is any byte, which a bool may not be.
 #[repr(C)]
 #[derive(Clone, Copy)]
 pub struct PlannerTally {
@@ -37,13 +38,9 @@ fn tell_tally(answer: Result<Tally, Refusal>, m: &mut u32, size: &mut u32, zero:
     ensures number { result ≡ refused answer }
     ensures places { places m.new size.new zero.new ≡ place_or numbers (places m.old size.old zero.old) answer }
 {
-    let Ok(tally) = answer else {
-        return number_of(&answer);
-    };
-    *m = tally.m;
-    *size = tally.size;
-    *zero = u8::from(tally.zero);
-    0
+    tell(answer.map(|tally| tally.m), m);
+    tell(answer.map(|tally| tally.size), size);
+    tell(answer.map(|tally| u8::from(tally.zero)), zero)
 }
 
 // The record of a whole list: its numbers then stand in `m`, `size` and `zero` (1 where the zero row is in, else 0).

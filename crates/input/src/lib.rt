@@ -1,4 +1,5 @@
-// What the programs read of standard input goes into places of their own, of a fixed number: no heap is asked for anything.
+// What the programs read of standard input goes into places of their own, of a fixed number.
+// kept: places and a count: a `Vec` would ask for the heap, and no heap is asked for anything.
 
 #![tactic(auto)]
 

@@ -44,6 +44,7 @@ module _ (k : List ℤ) (j : ℕ) (l : j < length k) where
   pub nonzeros_other : (get_or k j (pos 0) ≡ pos 0 → ⊥) → nonzeros (drop j k) ≡ nonzeros (drop (j + 1) k) + 1
   nonzeros_other e = rw (add-one j, drop-cons k j (pos 0) l) (other_first (get_or k j (pos 0)) (drop (suc j) k) e)
 
+-- the library's `pow-suc`, of j + 1: arithmetic takes 2 ^ (j + 1) and 2 ^ suc j for two numbers
 pub pow_step : (j : ℕ) → 2 ^ (j + 1) ≡ 2 ^ j * 2
 pow_step j = ap (λ (x : ℕ). 2 ^ x) (add-one j) ∙ pow-suc 2 j
 

@@ -8,11 +8,18 @@ ghost use Rattle.rank1.specs.Valid.{ValidTally};
 
 use rank1::{Plan, Refusal, Tally};
 
+// The limits in the type that a record's numbers have.
+// kept: `as`: from usize there is only `try_from`, which the value of a constant cannot call.
+const MOST_ROWS: u32 = rank1::MOST_ROWS as u32;
+
+// kept: `as`: from usize there is only `try_from`, which the value of a constant cannot call.
+const MOST_MIRRORS: u32 = rank1::MOST_MIRRORS as u32;
+
 // Condition 3 of a record: m over 512, a size over 64 × m, or a zero row at m = 0.
 pub(crate) fn check_tally(tally: Tally) -> Result<(), Refusal>
     ensures { refused result ≡ bad_tally tally }
 {
-    if 512 < tally.m || 64 * tally.m < tally.size || (tally.zero && tally.m == 0) {
+    if MOST_ROWS < tally.m || MOST_MIRRORS * tally.m < tally.size || (tally.zero && tally.m == 0) {
         return Err(Refusal::Length);
     }
     Ok(())

@@ -6,7 +6,8 @@ ghost use Rattle.rank1.specs.Index.{index_list};
 ghost use Rattle.rank1.specs.Corners.{from_zero, under, under_some};
 ghost use Rattle.lists.specs.Inner.{ValidCorners, Raisable, Stepped, Filled};
 
-use crate::{AXES, MOST_ROWS, ROW_ROOM};
+use crate::ROW_ROOM;
+use rank1::{MOST_AXES, MOST_ROWS};
 
 // Whether x is from 0 up to y.
 fn from_zero(x: i16, y: i16) -> bool
@@ -33,7 +34,7 @@ fn under_some(row: &[i16], corners: &[i16]) -> bool
 }
 
 // The next row up to some of the corners: the last component that can be raised is, and those behind it become 0. Says whether there
-// is one.
+// is one. kept: a bool, since the row is raised where it stands; an Option would hand the same row over beside it.
 fn next(corners: &[i16], row: &mut [i16]) -> bool
     requires { Raisable corners.now row.old }
     ensures { Stepped (index_list (length row.old) corners.now) row.old row.new result }
@@ -50,12 +51,12 @@ fn next(corners: &[i16], row: &mut [i16]) -> bool
 }
 
 // Writes the rows up to some of the corners, in order, and answers how many they are; or that there are more than 512.
-// kept: a row's place goes by its number, since what is promised of the run is told by how many rows stand at its front.
+// kept: a row is told its place, `i * d`: a proof knows no element that is written through `chunks_exact_mut`.
 pub(crate) fn fill(d: usize, corners: &[i16], rows: &mut [i16; ROW_ROOM]) -> Option<usize>
     requires { ValidCorners d corners.now }
     ensures { Filled d (index_list d corners.now) rows.new result }
 {
-    let mut row = [0i16; AXES];
+    let mut row = [0i16; MOST_AXES];
     for i in 0..MOST_ROWS {
         rows[i * d..(i + 1) * d].copy_from_slice(&row[..d]);
         if !next(corners, &mut row[..d]) {

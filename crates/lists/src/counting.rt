@@ -1,4 +1,5 @@
 // A list counted row by row.
+// kept: d and the rows stand apart, as in the public call that counts them: a struct of the two would be made for it alone.
 
 ghost use Rattle.std.specs.Prelude.{◌≡◌, ◌≤◌, length};
 ghost use Rattle.rank1.specs.Index.{index_list};
@@ -14,6 +15,7 @@ use rank1::{Plan, Tally};
 fn members_of(plan: Plan, row: &[i16]) -> u32
     ensures { (result ≡ length (mirrors_under (plan_number plan) (on_axes row.now))) × (result ≤ most_mirrors) }
 {
+    // kept: planner's takes_mirrors is above this crate; a method of Plan would be one public call more for two places.
     match plan {
         Plan::Integration | Plan::Fourier => 1,
         // kept: a row has at most 64 mirrors; `try_from` would have an `Err` that never comes.
@@ -43,7 +45,6 @@ pub(crate) fn count(plan: Plan, d: usize, rows: &[i16]) -> Tally
         size: 0,
         zero: false,
     };
-    // kept: tried as a `fold`; that `plus` may be called with each record on the way is then a law of its own, which the check did not find.
     for row in rows.chunks_exact(d) {
         tally = plus(plan, tally, row);
     }

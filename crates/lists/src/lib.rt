@@ -16,20 +16,16 @@ ghost use Rattle.rank1.specs.Index.{mirrors, nonzeros};
 ghost use Rattle.lists.specs.Rows.{most_axes, on_axes, placed};
 ghost use Rattle.lists.specs.Answer.{TallyCall, AddCall, LeastCall, CornerCall, LowerCall};
 
-use rank1::{Plan, Refusal, Tally};
+use rank1::{MOST_AXES, MOST_ROWS, Plan, Refusal, Tally};
 
-// The largest number of axes, and of rows; the numbers that so many rows have at most.
-const AXES: usize = 6;
-
-const MOST_ROWS: usize = 512;
-
-const ROW_ROOM: usize = MOST_ROWS * AXES;
+// The numbers that a list has at most.
+const ROW_ROOM: usize = MOST_ROWS * MOST_AXES;
 
 // The largest number of corners.
 const MOST_CORNERS: usize = 32;
 
 // Copies a row behind the first `at` numbers of a run; where it does not fit there, the run stays as it is.
-// kept: it is public and promises what becomes of the run at every place; the copy itself is the library's.
+// kept: public, so it stays; the copy itself is the library's.
 pub fn copy_row(row: &[i16], run: &mut [i16], at: usize)
     ensures { run.new ≡ placed at row.now run.old }
 {
@@ -42,7 +38,7 @@ pub fn copy_row(row: &[i16], run: &mut [i16], at: usize)
 pub fn nonzero_mask(row: &[i16]) -> u32
     ensures { (ones result ≡ nonzeros (on_axes row.now)) × (result < 2 ^ most_axes) }
 {
-    let counted = &row[..row.len().min(AXES)];
+    let counted = &row[..row.len().min(MOST_AXES)];
     let mut mask: u32 = 0;
     for (j, x) in counted.iter().enumerate() {
         if *x != 0 {
@@ -109,6 +105,7 @@ pub fn corner_list(d: usize, corners: &[i16], out: &mut [i16]) -> Result<usize, 
     if m < 1 || MOST_CORNERS < m {
         return Err(Refusal::Corners);
     }
+    // kept: places and a count: a `Vec` asks for the heap, and C gets the count.
     let mut rows = [0i16; ROW_ROOM];
     let count = corners::fill(d, corners, &mut rows).ok_or(Refusal::Corners)?;
     refusal::check_places(out.len(), MOST_ROWS * d)?;

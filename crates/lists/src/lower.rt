@@ -1,5 +1,6 @@
 // Whether a list is lower (document 02, c): it is just where no component is negative and, with a row, each row that has one component
 // one lower is in too.
+// kept: the row, its list and j go through two functions: a struct of them would be made anew for each component, and opened at once.
 
 ghost use Rattle.std.specs.Prelude.{◌≡◌, ◌≤◌, ◌<◌, pos, get_or, length, set};
 ghost use Rattle.rank1.specs.Tests.{any, same_row, Decides};
@@ -7,14 +8,14 @@ ghost use Rattle.rank1.specs.Index.{index_list};
 ghost use Rattle.lists.specs.Rows.{most_axes};
 ghost use Rattle.lists.specs.Inner.{down, steps, RowSteps, ListSteps};
 
-use crate::AXES;
+use rank1::MOST_AXES;
 
 // Whether the row with component j one lower (down to 0) is one of the list.
 fn lowered_stands(row: &[i16], rows: &[i16], j: usize) -> bool
     requires { (j < length row.now) × (length row.now ≤ most_axes) }
     ensures { result ≡ any (same_row (set row.now j (down (get_or row.now j (pos 0))))) (index_list (length row.now) rows.now) }
 {
-    let mut places = [0i16; AXES];
+    let mut places = [0i16; MOST_AXES];
     let lowered = &mut places[..row.len()];
     lowered.copy_from_slice(row);
     lowered[j] = row[j].saturating_sub(1).max(0);
@@ -30,7 +31,8 @@ fn component_steps(row: &[i16], rows: &[i16], j: usize) -> bool
     x == 0 || (0 < x && lowered_stands(row, rows, j))
 }
 
-// Whether all its components do.
+// Whether all its components do. kept: an index: tried over `enumerate`, with the test of `component_steps` in the closure, the proof did not close where
+// the answer is no.
 fn row_steps(row: &[i16], rows: &[i16]) -> bool
     requires { length row.now ≤ most_axes }
     ensures { Decides result (RowSteps (index_list (length row.now) rows.now) row.now) }
@@ -38,7 +40,7 @@ fn row_steps(row: &[i16], rows: &[i16]) -> bool
     (0..row.len()).all(|j| component_steps(row, rows, j))
 }
 
-// Whether all rows of the list do. kept: d and the rows stand apart, as in the public call that asks.
+// Whether all rows of the list do.
 pub(crate) fn list_steps(d: usize, rows: &[i16]) -> bool
     requires { (1 ≤ d) × (d ≤ most_axes) }
     ensures { Decides result (ListSteps (index_list d rows.now)) }

@@ -9,24 +9,30 @@ use lib.IntN.{ℤ, pos}
 use lib.ListN.{get_or-eq_default}
 use Rattle.rank1.specs.Index.{row_count}
 use Rattle.rank1.specs.Named.{plan_number}
-use Rattle.rank1.specs.Valid.{ValidList, ValidCall}
+use Rattle.rank1.specs.Search.{InRange}
+use Rattle.rank1.specs.Valid.{ValidList, ValidModulus, ValidCall}
 use Rattle.rank1.specs.Refusal.{first_of, bad_plan, bad_map_plan, list_conditions, pair_conditions, table_conditions, check_refusal}
 use Rattle.rank1.proofs.IndexLaws.{member_length}
 use Rattle.rank1.proofs.RefusalLaws.{first_of_none, first_of_none_append}
 use Rattle.rank1.proofs.ValidLaws.{plan_clear, map_plan_clear, valid_list, valid_pair}
-use Rattle.planner.specs.Sizes.{largest_component}
 use Rattle.planner.specs.Answer.{written, Answered}
 use Rattle.planner.specs.declared.list.Rows.{Rows}
+use Rattle.planner.specs.declared.lattice.Lattice.{Lattice}
 use Rattle.planner.specs.Lists.{Given}
+use Rattle.planner.specs.Sizes.{largest_component}
 use Rattle.planner.specs.Inner.{Products, Covered, Ready}
+use Rattle.planner.proofs.products.ProductLaws.{prepared_up_to}
 
 -- ---- valid arguments
 module _ (plan d : ℕ) (xs : List ℤ) (n : ℕ) (z : List ℕ) where
-  valid_rest : plan ≤ 4 → first_of (list_conditions plan d xs ++ pair_conditions d n z) ≡ 0 → ValidCall plan d xs n z
-  valid_rest l none =
+  -- past 2 to 7 they are a valid list, and a valid pair for it
+  pub valid_list_pair : first_of (list_conditions plan d xs ++ pair_conditions d n z) ≡ 0 → ValidList plan d xs × (ValidModulus n × InRange n d z)
+  valid_list_pair none =
       let parts = (first_of_none_append (list_conditions plan d xs) (pair_conditions d n z)).0 none in
-      let pair = valid_pair d n z parts.1 in
-      record { plans = l; list = valid_list plan d xs parts.0; modulus = pair.0; vector = pair.1 }
+      (valid_list plan d xs parts.0, valid_pair d n z parts.1)
+
+  valid_rest : plan ≤ 4 → first_of (list_conditions plan d xs ++ pair_conditions d n z) ≡ 0 → ValidCall plan d xs n z
+  valid_rest l none = let v = valid_list_pair none in record { plans = l; list = v.0; modulus = v.1.0; vector = v.1.1 }
 
   -- past the refusals of the check
   pub valid_check : check_refusal plan d xs n z ≡ 0 → ValidCall plan d xs n z
@@ -42,34 +48,32 @@ module _ (plan d : ℕ) (xs : List ℤ) (n : ℕ) (z : List ℕ) where
       valid_rest ((map_plan_clear plan).0 parts.0).0 parts.1
 
   -- ---- the whole vector: no row has a component past it
-  pub ready_whole : (top : ℕ) (table : List ℕ) → ValidCall plan d xs n z → Covered top xs → Products n z top table → Ready d xs n z table
-  ready_whole top table v covers products = record {
-    modulus = v.modulus;
-    some_axes = v.list.some_axes;
-    few_axes = v.list.few_axes;
-    whole = v.list.whole;
-    few_rows = v.list.few_rows;
-    different = v.list.different;
-    short = omega (arith, v.vector.size);
-    ended = λ k m j l. get_or-eq_default k (pos 0) (omega (arith, v.vector.size, member_length d (row_count d xs) xs k (omega (arith, v.list.whole)) m));
-    prepared = record { top = top; covers = covers; products = products };
+  pub ready_whole : (top : ℕ) (table : List ℕ) → ValidList plan d xs → ValidModulus n × InRange n d z → Covered top xs → Products n z top table → Ready d xs n z table
+  ready_whole top table list pair covers products = record {
+    modulus = pair.0;
+    some_axes = list.some_axes;
+    few_axes = list.few_axes;
+    whole = list.whole;
+    few_rows = list.few_rows;
+    different = list.different;
+    short = omega (arith, pair.1.size);
+    ended = λ k m j l. get_or-eq_default k (pos 0) (omega (arith, pair.1.size, member_length d (row_count d xs) xs k (omega (arith, list.whole)) m));
+    prepared = prepared_up_to n top z xs table covers products;
   }
 
--- ---- the rows that a call was given are valid as its arguments are
-pub given_valid : {plan d n : ℕ} {xs : List ℤ} {z : List ℕ} {rows : Rows} → Given plan d xs rows → ValidCall plan d xs n z → ValidCall (plan_number rows.plan) rows.d rows.numbers.now n z
-given_valid g v = rw g.plans (rw g.axes (rw g.numbers v))
-
--- what is so of them is so of the arguments
+-- ---- the rows that a call was given: what is so of them is so of the arguments
 pub of_given : {plan d : ℕ} {xs : List ℤ} {rows : Rows} (P : ℕ → ℕ → List ℤ → Type 0) → Given plan d xs rows → P (plan_number rows.plan) rows.d rows.numbers.now → P plan d xs
 of_given {plan} {d} {xs} {rows} P g p =
     subst (λ (a : ℕ). P a d xs) g.plans (subst (λ (a : ℕ). P (plan_number rows.plan) a xs) g.axes (subst (P (plan_number rows.plan) rows.d) g.numbers p))
 
--- and what is so of them and of the modulus and the vector that a lattice was made of
+-- and what is so of the lattice that was made of them, a modulus and a vector
 pub of_arguments :
-    {plan d m n : ℕ} {xs : List ℤ} {y z : List ℕ} {rows : Rows} (P : ℕ → ℕ → List ℤ → ℕ → List ℕ → Type 0) → Given plan d xs rows → (m ≡ n) × (y ≡ z)
-    → P (plan_number rows.plan) rows.d rows.numbers.now m y → P plan d xs n z
-of_arguments {plan} {d} {m} {n} {xs} {y} {z} P g made p =
-    subst (λ (a : ℕ). P plan d xs a z) made.0 (subst (P plan d xs m) made.1 (of_given (λ a b ys. P a b ys m y) g p))
+    {plan d n : ℕ} {xs : List ℤ} {z : List ℕ} {rows : Rows} (lattice : Lattice) (P : ℕ → ℕ → List ℤ → ℕ → List ℕ → Type 0) → Given plan d xs rows
+    → (lattice.rows ≡ rows) × (lattice.n ≡ n) × (lattice.z.now ≡ z)
+    → P (plan_number lattice.rows.plan) lattice.rows.d lattice.rows.numbers.now lattice.n lattice.z.now → P plan d xs n z
+of_arguments {plan} {d} {n} {xs} {z} {rows} lattice P g made p =
+    let own = subst (λ (r : Rows). P (plan_number r.plan) r.d r.numbers.now lattice.n lattice.z.now) made.0 p in
+    subst (λ (a : ℕ). P plan d xs a z) made.1 (subst (P plan d xs lattice.n) made.2 (of_given (λ a b ys. P a b ys lattice.n lattice.z.now) g own))
 
 -- ---- the components of a valid list, in document 01's range
 pub covered_valid : (plan d : ℕ) (xs : List ℤ) → ValidList plan d xs → Covered largest_component xs

@@ -10,15 +10,11 @@ use Prim.Native.Nat.{ℕ, ◌+◌, ◌≤◌}
 use lib.IntN.{ℤ, pos}
 use lib.ListN.{length, take, get_or-map}
 use lib.Seq.{get_or-take}
-use Rattle.rank1.specs.Named.{plan_number}
-use Rattle.planner.specs.declared.search.Search.{Search}
-use Rattle.planner.specs.declared.tables.Work.{Work}
 use Rattle.rank1.specs.Rule.{Admissible}
 use Rattle.rank1.specs.Corners.{Lower, Shortened}
 use Rattle.rank1.proofs.ShortLaws.{Cut, short_rule, short_prune}
 use Rattle.planner.specs.Levels.{ending}
-use Rattle.planner.specs.Lists.{rows_in}
-use Rattle.planner.specs.Stage.{NoneFrom, Tried}
+use Rattle.planner.specs.Stage.{NoneFrom}
 use Rattle.planner.proofs.levels.LevelLaws.{zero_from_lem, from_zero_lem, ending-out, ending_in}
 
 module _ (plan d j : ℕ) (ks hs : List (List ℤ)) (within : j ≤ d) (long : (k : List ℤ) → Memᴰ k ks → length k ≡ d) (low : Lower ks) (short : Shortened j ks hs) where
@@ -45,12 +41,16 @@ module _ (plan d j : ℕ) (ks hs : List (List ℤ)) (within : j ≤ d) (long : (
         (λ i l. get_or-map pos (take j z) i 0 ∙ ap pos (get_or-take j z i 0 l) ∙ sym (begins i l))
         plan breaks
 
--- the search tries v for component at: it goes on only where the shortened rows keep the rule, unless every difference is struck and so the
--- sieve stands for the test
-module _ (s : Search) (at v : ℕ) (z : List ℕ) (w : Work) (z' : List ℕ) (w' : Work) (r : Bool) (tried : Tried s at v z w z' w' r) (hs : List (List ℤ)) (within : at + 1 ≤ s.task.rows.d) (long : (k : List ℤ) → Memᴰ k (rows_in s.task.rows) → length k ≡ s.task.rows.d) (low : Lower (rows_in s.task.rows)) (short : Shortened (at + 1) (rows_in s.task.rows) hs) where
-  pub short_dropped : s.sieved ≡ false → (Admissible (plan_number s.task.rows.plan) hs s.n (map pos (take (at + 1) z')) → ⊥) → r ≡ false
-  short_dropped unsieved breaks = go r refl
-    where
-      go : (b : Bool) → r ≡ b → b ≡ false
-      go true e = absurd (breaks ((short_level (plan_number s.task.rows.plan) s.task.rows.d (at + 1) (rows_in s.task.rows) hs within long low short s.n z').1 (tried.tested unsieved e)))
-      go false e = refl
+-- the search tries a value for component at: it goes on only where the shortened rows keep the rule, unless every difference is struck and so the
+-- sieve stands for the test. `tested` is what the contract says of a value that is tried (specs/Stage `Tried`)
+module _
+    (plan d n at : ℕ) (ks hs : List (List ℤ)) (z : List ℕ) (sieved r : Bool)
+    (tested : sieved ≡ false → r ≡ true → Admissible plan (ending (at + 1) ks) n (map pos (take (at + 1) z)))
+    (within : at + 1 ≤ d) (long : (k : List ℤ) → Memᴰ k ks → length k ≡ d) (low : Lower ks) (short : Shortened (at + 1) ks hs)
+  where
+    pub short_dropped : sieved ≡ false → (Admissible plan hs n (map pos (take (at + 1) z)) → ⊥) → r ≡ false
+    short_dropped unsieved breaks = go r refl
+      where
+        go : (b : Bool) → r ≡ b → b ≡ false
+        go true e = absurd (breaks ((short_level plan d (at + 1) ks hs within long low short n z).1 (tested unsieved e)))
+        go false e = refl

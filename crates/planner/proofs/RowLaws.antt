@@ -4,13 +4,13 @@ use mathlib.Core.Path.{◌≡◌, refl, sym, ◌∙◌, ap, subst}
 use mathlib.Core.Bool.{Bool, true, false}
 use mathlib.Core.List.Memᴰ
 use mathlib.Core.List.{List, [], ◌∷◌, ◌++◌, append_assoc, Memᴰ}
-use Prim.Native.Nat.{ℕ, suc, ◌+◌, ◌-◌, ◌*◌, ◌<◌, ◌≤◌}
+use Prim.Native.Nat.{ℕ, ◌+◌, ◌-◌, ◌*◌, ◌<◌, ◌≤◌}
 use native.Mathlib.Nat.{div-mul-le_self, div-eq_of_eq-mul_left, le_refl}
 use native.Mathlib.Numerals.{add-one}
 use native.Mathlib.Omega.{arith}
 use denote.Ref.{Bor}
 use lib.IntN.{ℤ}
-use lib.ListN.{length, get_or, take, drop, length-append, length-drop, take-append-drop}
+use lib.ListN.{length, get_or, take, drop, length-drop, take-append-drop}
 use lib.Seq.{length-take-le, take_all, take-append-le, drop-append-le, take_at, drop_at, get_or-drop, paste}
 use Rattle.std.specs.Bool.{MatchBool}
 use Rattle.std.specs.List.{AllWithin, HoldsAt, FoldsTo, enumerate_from}
@@ -24,6 +24,7 @@ use Rattle.std.specs.declared.iter.Zip.{Zip}
 use Rattle.std.specs.declared.slice.Iter.{Iter}
 use Rattle.std.specs.Slice.Iter.{iter_rest}
 use Rattle.std.specs.List.{zip}
+use Rattle.std.proofs.lemmas.Bool.{MatchBool-at_true, MatchBool-at_false}
 use Rattle.std.proofs.lemmas.Iterator.{YieldsList, YieldsList-from_slice, YieldsList-from_zip, zips}
 use Rattle.std.proofs.lemmas.Fn.{fronts}
 use Rattle.std.proofs.lemmas.Slice.Zip.{length-zip, get_or-zip}
@@ -98,14 +99,6 @@ row_joined d m xs h e l =
         ∙ take_all d h (omega arith)
 
 -- ---- rows by their numbers
--- row i has d components
-pub row-size : (d m i : ℕ) (xs : List ℤ) → i < m → m * d ≤ length xs → length (get_or (rows_of d m xs) i []) ≡ d
-row-size d m i xs l h = ap length (row_at_lem d m xs i l) ∙ part_length d m xs i l h
-
--- row i lies before the end of m rows
-pub row_ends : (d m i : ℕ) → i < m → i * d + d ≤ m * d
-row_ends d m i l = row_fits d m i (m * d) l (omega arith)
-
 -- row e is the same among any number of rows
 pub row_among : (d m n e : ℕ) (xs : List ℤ) → e < m → e < n → get_or (rows_of d m xs) e [] ≡ get_or (rows_of d n xs) e []
 row_among d m n e xs l h = row_at_lem d m xs e l ∙ sym (row_at_lem d n xs e h)
@@ -165,10 +158,6 @@ rows-served {P} {R} {Q} {s} {p} ks road keeps serves = record {
     unmoved : (ys : List (Bor (List ℤ))) (q : P) → FoldsTo R p ys q → q ≡ p
     unmoved [] q f = sym f
     unmoved (y ∷ ys) q f = unmoved ys q (subst (λ (r : P). FoldsTo R r ys q) (keeps y f.0 f.1) f.2)
-
--- one item more
-pub one-more : {A : Type 0} (ys : List A) (x : A) → length (ys ++ (x ∷ [])) ≡ suc (length ys)
-one-more ys x = length-append ys (x ∷ []) ∙ add-one (length ys)
 
 -- a loop over it: how many rows it has passed, and the next one
 module _ (d : ℕ) (xs : List ℤ) (s : ChunksExact ℤ) (some : 1 ≤ d) (rest : chunks_exact_rest s ≡ xs) (size : chunks_exact_size s ≡ d) where
@@ -266,12 +255,6 @@ module _ {A : Type 0} (d : ℕ) (xs : List ℤ) (vs : List A) (s : Zip (ChunksEx
       let end = (YieldsList-end paired ys t yielded r u is e).1 in omega (arith, end, length-zip (index_list d xs) vs, rows-length d (row_count d xs) xs, same)
 
 -- what `all` and `any` found of its items, once the answer is known
-match_true : (P Q : Type 0) {r : Bool} → MatchBool r P Q → r ≡ true → P
-match_true P Q m e = subst (λ (b : Bool). MatchBool b P Q) e m
-
-match_false : (P Q : Type 0) {r : Bool} → MatchBool r P Q → r ≡ false → Q
-match_false P Q m e = subst (λ (b : Bool). MatchBool b P Q) e m
-
 -- a row that has P
 pub record Holder (P : List ℤ → Type 0) (ks : List (List ℤ)) : Type 0 where
   pub row : List ℤ
@@ -294,14 +277,14 @@ module _ (ks : List (List ℤ)) where
   module _ (P N : List ℤ → Type 0) {r : Bool} where
     -- `all`, with P where the test is true and N where it is false
     pub all_have : MatchBool r (Each P) (One N) → r ≡ true → (k : List ℤ) → Memᴰ k ks → P k
-    all_have found e = each P (match_true (Each P) (One N) found e)
+    all_have found e = each P (MatchBool-at_true (Each P) (One N) e found)
 
     pub not-all_have : MatchBool r (Each P) (One N) → r ≡ false → Holder N ks
-    not-all_have found e = one N (match_false (Each P) (One N) found e)
+    not-all_have found e = one N (MatchBool-at_false (Each P) (One N) e found)
 
     -- `any`, with the same
     pub some_has : MatchBool r (One P) (Each N) → r ≡ true → Holder P ks
-    some_has found e = one P (match_true (One P) (Each N) found e)
+    some_has found e = one P (MatchBool-at_true (One P) (Each N) e found)
 
   -- and where the test is f
   pub all-every : (f : List ℤ → Bool) (r : Bool) → MatchBool r (Each (λ k. true ≡ f k)) (One (λ k. false ≡ f k)) → r ≡ every f ks

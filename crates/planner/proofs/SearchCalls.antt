@@ -75,9 +75,9 @@ module _ (plan d : ℕ) (xs : List ℤ) (n places : ℕ) where
   range = bad_modulus n ∷ bad_places places d ∷ []
 
   -- one of 1 to 5 applies
-  pub refused_list : (k : ℕ) → k ≡ tally_refusal plan d xs → (k ≡ 0 → ⊥) → k ≡ search_refusal plan d xs n places
+  pub refused_list : (k : Refusal) → number k ≡ tally_refusal plan d xs → number k ≡ search_refusal plan d xs n places
   unfolding search_refusal tally_refusal
-  refused_list k e some = list_stops k (bad_plan plan ∷ list_conditions plan d xs) e range some
+  refused_list k e = list_stops (number k) (bad_plan plan ∷ list_conditions plan d xs) e range (λ none. omega (arith, number_some k, none))
 
   -- none does: 6 and 8 are left
   pub refused_range : (k : ℕ) → tally_refusal plan d xs ≡ 0 → k ≡ first_of range → k ≡ search_refusal plan d xs n places
@@ -90,11 +90,8 @@ module _ (plan d : ℕ) (xs : List ℤ) (low high : ℕ) (before : List ℕ) whe
   pub between_refused : (k : Refusal) (r : Result ℕ Refusal) → refused r ≡ number k → number k ≡ search_refusal plan d xs high (length before) → SearchBetween plan d xs low high before before r
   between_refused k r = refused_or before (PlanBetween (Admissible plan (index_list d xs)) d low high before before r) (search_refusal plan d xs high (length before)) k r
 
-  -- none applies: the arguments are valid, and the search answers
+  -- none applies: the search answers
   module _ (none : search_refusal plan d xs high (length before) ≡ 0) where
-    pub between_valid : ValidSearch plan d xs high (length before)
-    between_valid = valid_search plan d xs high (length before) none
-
     pub between_answered : (after : List ℕ) (r : Result ℕ Refusal) → PlanBetween (Admissible plan (index_list d xs)) d low high before after r → SearchBetween plan d xs low high before after r
     between_answered after r =
         answered_or before after r (PlanBetween (Admissible plan (index_list d xs)) d low high before after r) (search_refusal plan d xs high (length before)) none

@@ -1,5 +1,5 @@
 -- What the private functions ask of their arguments and say of their tables. Nothing here is in a public contract.
-use Rattle.std.specs.Prelude.{◌≡◌, Bool, true, false, not, ◌&&◌, ◌||◌, ℕ, suc, ◌+◌, ◌-◌, ◌*◌, ◌%◌, ◌^◌, ◌<◌, ◌≤◌, eqb, ℤ, pos, negsuc, nat_abs, ◌*ℤ◌, length, get_or, take, drop}
+use Rattle.std.specs.Prelude.{◌≡◌, Bool, true, false, Option, Some, None, not, ◌&&◌, ◌||◌, ℕ, suc, ◌+◌, ◌-◌, ◌*◌, ◌%◌, ◌^◌, ◌<◌, ◌≤◌, eqb, ℤ, pos, negsuc, nat_abs, ◌*ℤ◌, length, get_or, take, drop}
 use mathlib.Core.List.{List, [], map, Memᴰ}
 use Rattle.std.specs.Int.Signed.{quot_z}
 use Rattle.rank1.specs.Tests.{count}
@@ -37,21 +37,18 @@ pub record Covered (top : ℕ) (xs : List ℤ) : Type 0 where
   pub narrow : top ≤ largest_size
   pub covered : (i : ℕ) → nat_abs (get_or xs i (pos 0)) ≤ top
 
--- the table has the products of all components in xs
+-- no component in xs is larger than the largest; the table has, for each component of z, the residues of its products with the numbers that are no
+-- larger, by size, than some component in xs
 pub record Prepared (n : ℕ) (z : List ℕ) (xs : List ℤ) (table : List ℕ) : Type 0 where
-  pub top : ℕ
-  pub covers : Covered top xs
-  pub products : Products n z top table
+  pub covers : Covered largest_size xs
+  pub entry :
+      (j i : ℕ) (x : ℤ) → j < length z → nat_abs x ≤ nat_abs (get_or xs i (pos 0))
+      → get_or table (j * places + place x) 0 ≡ residue n (x *ℤ pos (get_or z j 0))
 
 -- ---- rows
 -- row e of a run of rows
 abbrev pub row_at : ℕ → List ℤ → ℕ → List ℤ
 row_at d xs e = take d (drop (e * d) xs)
-
--- a run of whole rows
-pub record WholeRows (d : ℕ) (xs : List ℤ) : Type 0 where
-  pub some_axes : 1 ≤ d
-  pub whole : length xs ≡ row_count d xs * d
 
 -- what the residues of a row's mirrors ask: few axes, the row 0 from z's length on, and the products
 pub record RowReady (n : ℕ) (z : List ℕ) (k : List ℤ) (table : List ℕ) : Type 0 where
@@ -74,29 +71,28 @@ pub record Ready (d : ℕ) (xs : List ℤ) (n : ℕ) (z table : List ℕ) : Type
   pub prepared : Prepared n z xs table
 
 -- ---- owners
--- at each number below n stands one more than the row of the first i that has this residue, and 0 where there is none;
--- f is the residue of each row
-pub record Owners (f : ℕ → ℕ) (n i : ℕ) (table : List ℕ) : Type 0 where
-  pub told : (a : ℕ) → a < i → get_or table (f a) 0 ≡ a + 1
-  pub owns : (x o : ℕ) → x < n → get_or table x 0 ≡ o + 1 → (o < i) × (f o ≡ x)
+-- at each number below n stands which one of the first i rows has this residue, or None; f is the residue of each row
+pub record Owners (f : ℕ → ℕ) (n i : ℕ) (table : List (Option ℕ)) : Type 0 where
+  pub told : (a : ℕ) → a < i → get_or table (f a) None ≡ Some a
+  pub owns : (x o : ℕ) → x < n → get_or table x None ≡ Some o → (o < i) × (f o ≡ x)
 
--- no entry below n is used
-abbrev pub Clear : ℕ → List ℕ → Type 0
-Clear n table = (x : ℕ) → x < n → get_or table x 0 ≡ 0
+-- no number below n is taken
+abbrev pub Clear : ℕ → List Bool → Type 0
+Clear n table = (x : ℕ) → x < n → get_or table x false ≡ false
 
 -- the residue of row i of a list
 abbrev pub residue_of : ℕ → List ℕ → List (List ℤ) → ℕ → ℕ
 residue_of n z ks i = residue_at n (map pos z) (get_or ks i [])
 
 -- what recording the owners of all rows gives: a full table, or two rows have one residue
-pub record Recorded (n : ℕ) (z : List ℕ) (ks : List (List ℤ)) (table : List ℕ) (r : Bool) : Type 0 where
+pub record Recorded (n : ℕ) (z : List ℕ) (ks : List (List ℤ)) (table : List (Option ℕ)) (r : Bool) : Type 0 where
   pub all : r ≡ true → Owners (residue_of n z ks) n (length ks) table
   pub clash : r ≡ false → Reconstructs ks n (map pos z) → ⊥
 
--- the owner of a residue (0: none, else one more than a row's number) forbids it to a mirror of row i: under plan B any owner
--- does, under plan C another row
-abbrev pub clash : ℕ → ℕ → ℕ → Bool
-clash plan i owner = not (eqb owner 0) && (eqb plan 3 || not (eqb owner (i + 1)))
+-- the owner of a residue forbids it to a mirror of row i: under plan B any owner does, under plan C another row
+abbrev pub clash : ℕ → ℕ → Option ℕ → Bool
+clash plan i None = false
+clash plan i (Some owner) = eqb plan 3 || not (eqb owner i)
 
 -- ---- sums
 -- how often x stands in a list of residues

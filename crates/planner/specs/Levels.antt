@@ -1,6 +1,6 @@
 -- The levels of a list: for each axis j the rows that are 0 from j on, in places of their own, and how many numbers they are. Nothing
 -- here is in a public contract.
-use Rattle.std.specs.Prelude.{◌≡◌, Bool, true, false, cond, List, [], ◌∷◌, ◌++◌, ℕ, ◌+◌, ◌*◌, ◌<◌, ◌≤◌, ℤ, pos, length, get_or, take, drop}
+use Rattle.std.specs.Prelude.{◌≡◌, Bool, cond, List, [], ◌∷◌, ℕ, ◌*◌, ◌<◌, ◌≤◌, ℤ, pos, length, get_or, take, drop}
 use Rattle.rank1.specs.Tests.{every, same_number}
 use Rattle.rank1.specs.Index.{row_count, index_list}
 use Rattle.planner.specs.Sizes.{level_room}
@@ -24,13 +24,8 @@ pub record RunOf (d : ℕ) (ks : List (List ℤ)) (xs : List ℤ) : Type 0 where
   pub rows : index_list d xs ≡ ks
   pub whole : length xs ≡ row_count d xs * d
 
--- a row k, where it is 0 from axis j on, is copied behind the first `at` numbers, which then are r; any other is passed over
-pub record RowKept (j at : ℕ) (k old new : List ℤ) (r : ℕ) : Type 0 where
-  pub copied : zero_from j k ≡ true → (new ≡ take at old ++ k ++ drop (at + length k) old) × (r ≡ at + length k)
-  pub passed : zero_from j k ≡ false → (new ≡ old) × (r ≡ at)
-
--- r numbers at the front of `new` are the rows of xs that are 0 from axis j on; no number is in `new` that was not there before
--- or in xs
+-- r numbers at the front of `new` are the rows of xs that are 0 from axis j on; no component of `new` is larger than those of xs and of
+-- `old`
 pub record Kept (d j : ℕ) (xs old new : List ℤ) (r : ℕ) : Type 0 where
   pub level : RunOf d (ending j (index_list d xs)) (take r new)
   pub fits : r ≤ length xs

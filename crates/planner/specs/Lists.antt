@@ -1,12 +1,12 @@
 -- What the private functions say of the list and of the lattice that a call is about.
 use Rattle.std.specs.Prelude.{◌≡◌, ℕ, List, ℤ, pos, map}
-use mathlib.Core.List.{Memᴰ}
 use Rattle.rank1.specs.Named.{plan_number}
 use Rattle.rank1.specs.Residue.{residue_at}
 use Rattle.rank1.specs.Index.{index_list}
 use Rattle.rank1.specs.Rule.{Admissible}
-use Rattle.rank1.specs.Valid.{Nonnegative, ValidList}
-use Rattle.planner.specs.Inner.{RowReady, Ready}
+use Rattle.rank1.specs.Search.{InRange}
+use Rattle.rank1.specs.Valid.{ValidModulus}
+use Rattle.planner.specs.Inner.{RowReady}
 use Rattle.planner.specs.declared.list.Rows.{Rows}
 use Rattle.planner.specs.declared.lattice.Lattice.{Lattice}
 
@@ -20,13 +20,9 @@ pub record Given (plan d : ℕ) (xs : List ℤ) (rows : Rows) : Type 0 where
   pub axes : rows.d ≡ d
   pub numbers : rows.numbers.now ≡ xs
 
--- none of the conditions 2 to 5 refuses it
-abbrev pub ValidRows : Rows → Type 0
-ValidRows rows = ValidList (plan_number rows.plan) rows.d rows.numbers.now
-
--- no row has a negative component
-abbrev pub Unsigned : Rows → Type 0
-Unsigned rows = (k : List ℤ) → Memᴰ k (rows_in rows) → Nonnegative k
+-- n and z are a valid pair for the rows
+abbrev pub PairFor : ℕ → List ℕ → Rows → Type 0
+PairFor n z rows = ValidModulus n × InRange n rows.d z
 
 -- the residue of a row
 abbrev pub residue_by : Lattice → List ℤ → ℕ
@@ -36,10 +32,6 @@ residue_by lattice k = residue_at lattice.n (map pos lattice.z.now) k
 abbrev pub ReadyRow : Lattice → List ℤ → Type 0
 ReadyRow lattice k = RowReady lattice.n lattice.z.now k lattice.products.now
 
--- the same for all rows of a list, which are different
-abbrev pub ReadyRows : Rows → Lattice → Type 0
-ReadyRows rows lattice = Ready rows.d rows.numbers.now lattice.n lattice.z.now lattice.products.now
-
--- the lattice keeps the rule of the plan
-abbrev pub Keeps : Rows → Lattice → Type 0
-Keeps rows lattice = Admissible (plan_number rows.plan) (rows_in rows) lattice.n (map pos lattice.z.now)
+-- the lattice keeps the rule of its rows' plan
+abbrev pub Keeps : Lattice → Type 0
+Keeps lattice = Admissible (plan_number lattice.rows.plan) (rows_in lattice.rows) lattice.n (map pos lattice.z.now)

@@ -4,6 +4,7 @@
 use Rattle.std.specs.Prelude.{◌≡◌, ◌⊎◌, Bool, true, false, Option, Some, None, List, ℕ, suc, ◌+◌, ◌*◌, ◌%◌, ◌<◌, ◌≤◌, ℤ, pos, nat_abs, length, get_or, drop}
 use Rattle.rank1.specs.Valid.{ValidModulus}
 use Rattle.planner.specs.Inner.{place, KeptBelow, Covered}
+use Rattle.planner.specs.declared.sieve.Run.{Run}
 use Rattle.planner.specs.declared.tables.ListTables.{ListTables}
 use Rattle.planner.specs.declared.tables.ModulusTables.{ModulusTables}
 use Rattle.planner.specs.Runs.{Bounds}
@@ -72,40 +73,40 @@ pub record TablesTo (n most : ℕ) (M : ModulusTables) : Type 0 where
   pub high : most ≤ solution_room
   pub before : (t step : ℕ) → t < lasts → get_or M.steps t None ≡ Some step → get_or M.starts t 0 + n ≤ most
 
--- ---- one run: the sums of its differences up to the axis before last, their components on that axis, and its products
-module _ (n : ℕ) (sums : List ℕ) (components : List ℤ) (products : List ℕ) where
+-- ---- one run r
+module _ (r : Run) where
   -- the product of difference i on the axis before last
   abbrev pub product : ℕ → ℕ
-  product i = get_or products (place (get_or components i (pos 0))) 0
+  product i = get_or r.products.now (place (get_or r.components.now i (pos 0))) 0
 
   -- c of difference i: the residue of its part before the last axis
   abbrev pub part : ℕ → ℕ
-  part i = (get_or sums i 0 + product i) % n
+  part i = (get_or r.sums.now i 0 + product i) % r.n
 
-  -- what the code asks of them
-  pub record Run : Type 0 where
-    pub modulus : ValidModulus n
-    pub paired : length components ≡ length sums
-    pub table : length products ≡ places
-    pub small : (i : ℕ) → i < length sums → nat_abs (get_or components i (pos 0)) ≤ largest_size
-    pub sums_below : (i : ℕ) → i < length sums → get_or sums i 0 < n
-    pub products_below : (i : ℕ) → i < length sums → product i < n
+  -- what finding these parts asks
+  pub record PartsReady : Type 0 where
+    pub modulus : ValidModulus r.n
+    pub paired : length r.components.now ≡ length r.sums.now
+    pub table : length r.products.now ≡ places
+    pub small : (i : ℕ) → i < length r.sums.now → nat_abs (get_or r.components.now i (pos 0)) ≤ largest_size
+    pub sums_below : (i : ℕ) → i < length r.sums.now → get_or r.sums.now i 0 < r.n
+    pub products_below : (i : ℕ) → i < length r.sums.now → product i < r.n
 
   -- what striking asks: mark n is there too, and stands for no value
-  pub record Strikable (t step : ℕ) (solutions : List ℕ) (marks : List Bool) : Type 0 where
-    pub run : Run
-    pub solved : SolutionsSet n t step solutions
-    pub inside : n < length marks
+  pub record Strikable (marks : List Bool) : Type 0 where
+    pub parts : PartsReady
+    pub solved : SolutionsSet r.n r.t r.step r.solutions.now
+    pub inside : r.n < length marks
 
   -- v solves c + t v = 0 for a difference of the run
-  pub record Solves (t v : ℕ) : Type 0 where
+  pub record Solves (v : ℕ) : Type 0 where
     pub which : ℕ
-    pub inside : which < length sums
-    pub solved : (part which + t * v) % n ≡ 0
+    pub inside : which < length r.sums.now
+    pub solved : (part which + r.t * v) % r.n ≡ 0
 
   -- every value that is marked afterwards was marked before or solves
-  abbrev pub Struck : ℕ → List Bool → List Bool → Type 0
-  Struck t old new = MarkedFor n (Solves t) old new
+  abbrev pub Struck : List Bool → List Bool → Type 0
+  Struck old new = MarkedFor r.n Solves old new
 
 -- ---- all differences: their components, the products of z, and the residues of their parts before each axis
 module _ (n j : ℕ) (components : List ℤ) (products sums : List ℕ) where

@@ -1,19 +1,21 @@
--- The sizes of the tables, by name; src/sizes.rt has the same numbers for the code.
-use Rattle.std.specs.Prelude.{ℕ, ◌*◌}
+-- The sizes of the tables under the names that contracts and proofs use. Each number that this crate's code has stands in src/sizes.rt alone, or in
+-- crate rank1, from which that takes document 01's limits; the two that this crate's code has no use for stand here.
+use Rattle.std.specs.Prelude.{ℕ}
+use Rattle.planner.specs.declared.sizes.TheConstants.{AXES, MOST_ROWS, LARGEST_MODULUS, MOST_MIRRORS, MIDDLE, PLACES, PRODUCT_ROOM, LEVEL_ROOM, MOST_MEMBERS, ROOM, SLOTS, LASTS, SOLUTION_ROOM}
 
 -- ---- the limits of document 01
 abbrev pub axes : ℕ
-axes = 6
+axes = AXES
 
 abbrev pub most_rows : ℕ
-most_rows = 512
+most_rows = MOST_ROWS
 
 abbrev pub largest_modulus : ℕ
-largest_modulus = 8192
+largest_modulus = LARGEST_MODULUS
 
 -- the mirrors of a row: 2 to the number of axes
 abbrev pub most_mirrors : ℕ
-most_mirrors = 64
+most_mirrors = MOST_MIRRORS
 
 -- a component of a row has at most this size
 abbrev pub largest_component : ℕ
@@ -24,32 +26,32 @@ abbrev pub largest_size : ℕ
 largest_size = 510
 
 abbrev pub middle : ℕ
-middle = 511
+middle = MIDDLE
 
 abbrev pub places : ℕ
-places = 1024
+places = PLACES
 
 abbrev pub product_room : ℕ
-product_room = axes * places
+product_room = PRODUCT_ROOM
 
 -- ---- the rows that end by an axis: so many numbers for each axis
 abbrev pub level_room : ℕ
-level_room = most_rows * axes
+level_room = LEVEL_ROOM
 
 -- ---- differences: how many members pairs are made of, how many differences there is room for, and the slots of their hash
 abbrev pub most_members : ℕ
-most_members = 4096
+most_members = MOST_MEMBERS
 
 abbrev pub room : ℕ
-room = 12288
+room = ROOM
 
 abbrev pub slot_count : ℕ
-slot_count = 32768
+slot_count = SLOTS
 
--- the last components that a difference can have, 0 to 511: one run for each of them on each axis
+-- one run for each last component on each axis: a difference ends with a component from 1 to 510
 abbrev pub lasts : ℕ
-lasts = 512
+lasts = LASTS
 
 -- numbers in the tables of solutions, n for each last component
 abbrev pub solution_room : ℕ
-solution_room = 262144
+solution_room = SOLUTION_ROOM

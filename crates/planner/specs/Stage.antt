@@ -7,7 +7,6 @@ use Rattle.planner.specs.declared.list.Rows.{Rows}
 use Rattle.planner.specs.declared.listing.Listing.{Listing}
 use Rattle.planner.specs.declared.listing.Task.{Task}
 use Rattle.planner.specs.declared.search.Search.{Search}
-use Rattle.planner.specs.declared.tables.ListTables.{ListTables}
 use Rattle.planner.specs.declared.tables.Work.{Work}
 use Rattle.rank1.specs.Residue.{residue, residue_at}
 use Rattle.rank1.specs.Index.{index_list}
@@ -21,7 +20,7 @@ use Rattle.rank1.specs.Refusal.{search_refusal}
 use Rattle.planner.specs.Answer.{RefusedOr}
 use Rattle.planner.specs.Sizes.{axes, lasts, room, places, largest_modulus}
 use Rattle.planner.specs.Inner.{place, KeptBelow, Covered}
-use Rattle.planner.specs.Lists.{rows_in, ValidRows}
+use Rattle.planner.specs.Lists.{rows_in}
 use Rattle.planner.specs.Levels.{ending, Levels}
 use Rattle.planner.specs.Exchange.{Swaps}
 use Rattle.planner.specs.Table.{FlipMarks}
@@ -44,18 +43,12 @@ pub record Differenced (rows : Rows) (listing : Listing) (flips : List Bool) (co
   pub small : Covered listing.top components
   pub tails : listing.tail < lasts
 
--- what making them asks: a valid list, and zeros where the differences are to stand
-pub record Differable (rows : Rows) (T : ListTables) : Type 0 where
-  pub list : ValidRows rows
-  pub zeros : Covered 0 T.components
-
--- a valid list, no component larger than the largest, and the rows that end by each axis
+-- no component of the list is larger than the largest, and the levels are the rows that end by each axis
 pub record Listed (task : Task) : Type 0 where
-  pub list : ValidRows task.rows
   pub covers : Covered task.listing.top task.rows.numbers.now
   pub ends : Levels task.rows.d task.listing.top task.rows.numbers.now task.list.now.levels task.list.now.sizes
 
--- all tables of a valid list
+-- all tables of a list
 pub record Tabled (task : Task) : Type 0 where
   pub listed : Listed task
   pub swaps : Swaps task.rows.d (rows_in task.rows) task.list.now.swaps
@@ -154,10 +147,10 @@ pub record Sifted (s : Search) (at : ℕ) (w w' : Work) : Type 0 where
   pub kept : KeptBelow false (at * largest_modulus) w.struck w'.struck
   pub reason : (v : ℕ) → v < s.n → get_or w'.struck (at * largest_modulus + v) false ≡ true → Ruled s at w v
 
--- the first value from `from` on that is not struck, or none before the end
-abbrev pub NextFree : ℕ → ℕ → ℕ → List Bool → Option ℕ → Type 0
-NextFree base from end struck (Some r) = (from ≤ r) × (r < end) × ((v : ℕ) → from ≤ v → v < r → get_or struck (base + v) false ≡ true)
-NextFree base from end struck None = (v : ℕ) → from ≤ v → v < end → get_or struck (base + v) false ≡ true
+-- a value from `from` on before which all are struck, or None: all before the end are struck. (That the value itself is not is speed.)
+abbrev pub NextFree : ℕ → ℕ → List Bool → Option ℕ → Type 0
+NextFree from end struck (Some r) = (from ≤ r) × (r < end) × ((v : ℕ) → from ≤ v → v < r → get_or struck v false ≡ true)
+NextFree from end struck None = (v : ℕ) → from ≤ v → v < end → get_or struck v false ≡ true
 
 -- where scaling holds, v cannot be a first component: it neither is 0 nor divides n
 pub record CannotLead (s : Search) (at v : ℕ) : Type 0 where
@@ -199,7 +192,7 @@ pub record Triable (s : Search) (at v : ℕ) (z : List ℕ) (w : Work) : Type 0 
 -- struck), with false no first vector begins so; the sums and the marks stay
 pub record Tried (s : Search) (at v : ℕ) (z : List ℕ) (w : Work) (z' : List ℕ) (w' : Work) (r : Bool) : Type 0 where
   pub stored : z' ≡ set z at v
-  pub only : w' ≡ record w { products = w'.products; owners = w'.owners }
+  pub only : w' ≡ record w { products = w'.products; owners = w'.owners; taken = w'.taken }
   pub kept_products : KeptBelow 0 (at * places) w.products w'.products
   pub prefix : r ≡ true → Prefixed s (at + 1) z' w'.products
   pub none : r ≡ false → NoFirstOf s (at + 1) z'
@@ -250,9 +243,8 @@ abbrev pub Ascended : Rule → ℕ → ℕ → ℕ → List ℕ → Option ℕ �
 Ascended rule d low high x (Some n) = (low ≤ n) × (n ≤ high) × Gentlest rule d n x × ((m : ℕ) → low ≤ m → m < n → Hopeless rule d m)
 Ascended rule d low high x None = (m : ℕ) → low ≤ m → m ≤ high → Hopeless rule d m
 
--- what the search of a valid list asks: moduli from 1 to the largest, and a place for each component
+-- what the search of a list asks: moduli from 1 to the largest, and a place for each component
 pub record Searchable (rows : Rows) (low high : ℕ) (z : List ℕ) : Type 0 where
-  pub list : ValidRows rows
   pub some : 1 ≤ low
   pub few : high ≤ largest_modulus
   pub places_for_z : length z ≡ rows.d

@@ -1,70 +1,88 @@
 // The differences of the pairs of rows that a plan keeps apart, collected in a table. Pairs are made of the members: the rows, under
 // plans A, B and C their mirrors. What a function says of the table is which pairs it grew by (`GrownTo`); where the table is full it
-// stops. Differences can be collected that end at one axis alone, the level; AXES stands for all axes.
+// stops. Differences can be collected that end at one axis alone, the level; with None, all.
+// kept: s and t are the two rows of a pair, of one kind, which a struct of both would name no better; and the members are made anew for each level, so
+// they are no part of the rows that they are paired with.
 
 ghost use Rattle.std.specs.Prelude.{◌≡◌, true, false, ◌≤◌, ◌<◌, length};
+ghost use Rattle.rank1.specs.Differences.{minus};
 ghost use Rattle.rank1.specs.Index.{row_count};
 ghost use Rattle.rank1.specs.Named.{plan_number};
-ghost use Rattle.planner.specs.Sizes.{most_members, largest_component};
-ghost use Rattle.planner.specs.Inner.{Covered};
-ghost use Rattle.planner.specs.Lists.{rows_in, ValidRows};
+ghost use Rattle.planner.specs.Lists.{rows_in};
 ghost use Rattle.planner.specs.Members.{Kin};
-ghost use Rattle.planner.specs.Table.{Subtractable, Stored, OnePair, MemberPair, Turns, first_met, MetPairs, PlanPairs, GrownTo, RowRun, Pairable};
+ghost use Rattle.planner.specs.Table.{Subtractable, Below, Upright, OnePair, MemberPair, PairsFrom, RowPairs, BehindPairs, PlanPairs, GrownTo, RowThere, RowRun, Pairable};
 
 use crate::list::Rows;
 use crate::members::Members;
-use crate::rows::row_at;
+use crate::rows::{end_of, row_at};
 use crate::sizes::{AXES, ROOM};
-use crate::table::{Differences, set_difference};
+use crate::table::Differences;
 use rank1::Plan;
 
-// What pairs are made of: a plan, rows of d numbers, the members among them, and the axis at which a difference is to end.
+// Sets h to s - t.
+// kept: an index into s and t. After a `zip` of `iter_mut` the library says nothing of what was written, so no proof of it closes.
+fn set_minus(s: &[i16], t: &[i16], h: &mut [i16])
+    requires { Subtractable (length h.old) s.now t.now }
+    ensures { h.new ≡ minus s.now t.now }
+{
+    for (j, x) in h.iter_mut().enumerate() {
+        *x = s[j] - t[j];
+    }
+}
+
+// Sets h to the difference of two rows, or to its negative, with the last component that is not 0 above 0; answers whether they differ.
+fn set_difference(s: &[i16], t: &[i16], h: &mut [i16]) -> bool
+    requires { Subtractable (length h.old) s.now t.now }
+    ensures { Upright s.now t.now h.new result }
+{
+    set_minus(s, t, h);
+    let Some(j) = end_of(h) else {
+        return false;
+    };
+    if h[j] < 0 {
+        set_minus(t, s, h);
+    }
+    true
+}
+
+// kept: what pairs ask of the members and of the level is a clause: it speaks of the table's d, which a Pairing has not.
+// What pairs are made of: a plan, rows, the members that they are paired with, and the axis at which a difference is to end, or None
+// where it may end at any. The rows are as long as those of the table.
 #[derive(Clone, Copy)]
 struct Pairing<'a> {
     plan: Plan,
-    d: usize,
-    level: usize,
+    level: Option<usize>,
+    rows: &'a [i16],
     members: &'a Members,
 }
 
-// Whether the difference of two rows ends at an axis; for AXES it is always so.
-fn ends_at(s: &[i16], t: &[i16], level: usize) -> bool
-    requires { length s.now ≡ length t.now }
+// Whether the difference of two rows ends at an axis; for None it is always so.
+fn ends_at(s: &[i16], t: &[i16], level: Option<usize>) -> bool
+    requires { (length s.now ≡ length t.now) × Below level (length s.now) }
 {
-    if s.len() <= level {
+    let Some(j) = level else {
         return true;
-    }
-    s[level] != t[level] && s[level + 1..] == t[level + 1..]
-}
-
-// The first member that row i meets: the one behind it where the rows are the members themselves, else the first.
-fn first_met(behind: bool, i: usize) -> usize
-    requires { i < most_members }
-    ensures { result ≡ first_met behind i }
-{
-    if behind { i + 1 } else { 0 }
+    };
+    s[j] != t[j] && s[j + 1..] == t[j + 1..]
 }
 
 impl Differences {
     // Adds the difference of two rows, or its negative; nothing where they are the same row.
     fn add_pair(&mut self, s: &[i16], t: &[i16])
-        requires subtractable { (1 ≤ length s.now) × Subtractable (length s.now) s.now t.now }
-        requires stored { Stored (length s.now) self.old }
-        ensures { GrownTo (length s.now) (OnePair s.now t.now) self.old self.new }
+        requires { Subtractable self.old.d s.now t.now }
+        ensures { GrownTo (OnePair s.now t.now) self.old self.new }
     {
         let mut places = [0i16; AXES];
-        let h = &mut places[..s.len()];
-        let j = set_difference(s, t, h);
-        if h[j] != 0 {
+        let h = &mut places[..self.d];
+        if set_difference(s, t, h) {
             self.add(h);
         }
     }
 
     // Adds the difference of two rows where it ends at the level; else the pair is passed over.
-    fn add_ending(&mut self, level: usize, s: &[i16], t: &[i16])
-        requires subtractable { (1 ≤ length s.now) × Subtractable (length s.now) s.now t.now }
-        requires stored { Stored (length s.now) self.old }
-        ensures { GrownTo (length s.now) (OnePair s.now t.now) self.old self.new }
+    fn add_ending(&mut self, level: Option<usize>, s: &[i16], t: &[i16])
+        requires { Subtractable self.old.d s.now t.now × Below level self.old.d }
+        ensures { GrownTo (OnePair s.now t.now) self.old self.new }
     {
         if ends_at(s, t, level) {
             self.add_pair(s, t);
@@ -73,20 +91,23 @@ impl Differences {
         }
     }
 
-    // Adds the difference of member e and a row; under plan C nothing where the row owns the member.
-    fn add_member(&mut self, pairing: &Pairing, row: &[i16], owner: usize, e: usize)
-        requires pairable { Pairable pairing.now.d pairing.now.members.now × (e < pairing.now.members.now.count) }
-        requires row_len { (length row.now ≡ pairing.now.d) × Covered largest_component row.now }
-        requires stored { Stored pairing.now.d self.old }
-        ensures { GrownTo pairing.now.d (MemberPair (plan_number pairing.now.plan) pairing.now.d owner pairing.now.members.now row.now e) self.old self.new }
+    // Adds the difference of member e and row i; under plan C nothing where the row owns the member.
+    fn add_member(&mut self, pairing: &Pairing, i: usize, e: usize)
+        requires row { RowThere self.old.d pairing.now.rows.now i }
+        requires member { Pairable self.old.d pairing.now.level pairing.now.members.now × (e < pairing.now.members.now.count) }
+        ensures { GrownTo (MemberPair (plan_number pairing.now.plan) self.old.d pairing.now.rows.now pairing.now.members.now i e) self.old self.new }
     {
         let members = pairing.members;
         if pairing.plan == Plan::C {
-            if usize::from(members.owners[e]) == owner {
+            if usize::from(members.owners[e]) == i {
                 return;
             }
         }
-        self.add_ending(pairing.level, row_at(&members.rows, e, pairing.d), row);
+        self.add_ending(
+            pairing.level,
+            row_at(&members.rows, e, self.d),
+            row_at(pairing.rows, i, self.d),
+        );
     }
 
     // Whether the table is full and is known not to have all differences: then no pair changes anything more.
@@ -96,30 +117,47 @@ impl Differences {
         !self.whole && self.count == ROOM
     }
 
-    // Adds the differences of a row and the members from number `from` on, until the table is full.
-    fn add_against(&mut self, pairing: &Pairing, row: &[i16], owner: usize, from: usize)
-        requires from_le_count { (from ≤ pairing.now.members.now.count) × Pairable pairing.now.d pairing.now.members.now }
-        requires row_len { (length row.now ≡ pairing.now.d) × Covered largest_component row.now }
-        requires stored { Stored pairing.now.d self.old }
-        ensures { GrownTo pairing.now.d (Turns from pairing.now.members.now.count (MemberPair (plan_number pairing.now.plan) pairing.now.d owner pairing.now.members.now row.now)) self.old self.new }
+    // Adds the differences of the members from number `from` on and row i, until the table is full.
+    fn add_against(&mut self, pairing: &Pairing, i: usize, from: usize)
+        requires row { RowThere self.old.d pairing.now.rows.now i }
+        requires members { Pairable self.old.d pairing.now.level pairing.now.members.now × (from ≤ pairing.now.members.now.count) }
+        ensures { GrownTo (PairsFrom (plan_number pairing.now.plan) self.old.d from pairing.now.rows.now pairing.now.members.now i) self.old self.new }
     {
-        // kept: e is a member, whose row and whose owner stand in two arrays, and a chain over both is no plainer.
+        // kept: e is a member, whose row and whose owner stand in two arrays: a chain over both would be cut at the count and at `from`, for what one
+        // number says here.
         for e in from..pairing.members.count {
-            self.add_member(pairing, row, owner, e);
+            self.add_member(pairing, i, e);
             if self.is_full() {
                 return;
             }
         }
     }
 
-    // Adds the differences of each row of a run and the members that it meets, until the table is full.
-    fn pair_each(&mut self, pairing: &Pairing, rows: &[i16], behind: bool)
-        requires row_run { RowRun pairing.now.d (row_count pairing.now.d rows.now) rows.now × (behind ≡ true → row_count pairing.now.d rows.now ≤ pairing.now.members.now.count) }
-        requires pairable { Pairable pairing.now.d pairing.now.members.now × Stored pairing.now.d self.old }
-        ensures { GrownTo pairing.now.d (Turns 0 (row_count pairing.now.d rows.now) (MetPairs (plan_number pairing.now.plan) pairing.now.d behind rows.now pairing.now.members.now)) self.old self.new }
+    // Adds the differences of all members and each row, until the table is full.
+    fn pair_rows(&mut self, pairing: &Pairing)
+        requires rows { RowRun self.old.d (row_count self.old.d pairing.now.rows.now) pairing.now.rows.now }
+        requires members { Pairable self.old.d pairing.now.level pairing.now.members.now }
+        ensures { GrownTo (RowPairs (plan_number pairing.now.plan) self.old.d pairing.now.rows.now pairing.now.members.now) self.old self.new }
     {
-        for (i, row) in rows.chunks_exact(pairing.d).enumerate() {
-            self.add_against(pairing, row, i, first_met(behind, i));
+        // kept: i is the row's number, by which plan C knows the members that it owns; `enumerate` would hand on row and number where the number tells both.
+        for i in 0..pairing.rows.len() / self.d {
+            self.add_against(pairing, i, 0);
+            if self.is_full() {
+                return;
+            }
+        }
+    }
+
+    // Adds the differences of each row and the members behind its own number, until the table is full: the rows are the members.
+    // kept: beside pair_rows: one function with a closure for where the members begin would promise by cases what each says plainly.
+    fn pair_behind(&mut self, pairing: &Pairing)
+        requires rows { RowRun self.old.d pairing.now.members.now.count pairing.now.rows.now }
+        requires members { Pairable self.old.d pairing.now.level pairing.now.members.now }
+        ensures { GrownTo (BehindPairs (plan_number pairing.now.plan) self.old.d pairing.now.rows.now pairing.now.members.now) self.old self.new }
+    {
+        // kept: i is the row's number, and says where the members begin that it meets.
+        for i in 0..pairing.members.count {
+            self.add_against(pairing, i, i + 1);
             if self.is_full() {
                 return;
             }
@@ -128,26 +166,27 @@ impl Differences {
 
     // Adds the differences of all pairs of members that the plan keeps apart, those that end at the level: for integration each with the row
     // of zeros, for Fourier and plan A each with those behind it, for plans B and C each with all rows.
-    pub(crate) fn pair_all(&mut self, rows: &Rows, level: usize, members: &Members)
-        requires valid_rows { ValidRows rows.now × Kin (plan_number rows.now.plan) rows.now.d (rows_in rows.now) members.now }
-        requires stored { Stored rows.now.d self.old }
-        ensures { GrownTo rows.now.d (PlanPairs (plan_number rows.now.plan) rows.now.d rows.now.numbers.now members.now) self.old self.new }
+    pub(crate) fn pair_all(&mut self, rows: &Rows, level: Option<usize>, members: &Members)
+        requires members { Kin (plan_number rows.now.plan) rows.now.d (rows_in rows.now) members.now }
+        requires axes { (self.old.d ≡ rows.now.d) × Below level rows.now.d }
+        ensures { GrownTo (PlanPairs (plan_number rows.now.plan) self.old.d rows.now.numbers.now members.now) self.old self.new }
     {
-        let d = rows.d;
         let pairing = Pairing {
             plan: rows.plan,
-            d,
             level,
+            rows: rows.numbers,
             members,
         };
         match rows.plan {
-            Plan::Integration => self.pair_each(&pairing, &[0i16; AXES][..d], false),
-            Plan::Fourier | Plan::A => self.pair_each(
-                &pairing,
-                &members.rows[..members.count * d],
-                true,
-            ),
-            Plan::B | Plan::C => self.pair_each(&pairing, rows.numbers, false),
+            Plan::Integration => self.pair_rows(&Pairing {
+                rows: &[0i16; AXES][..self.d],
+                ..pairing
+            }),
+            Plan::Fourier | Plan::A => self.pair_behind(&Pairing {
+                rows: &members.rows,
+                ..pairing
+            }),
+            Plan::B | Plan::C => self.pair_rows(&pairing),
         }
     }
 }

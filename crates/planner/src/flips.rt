@@ -5,18 +5,17 @@ ghost use Rattle.std.specs.Prelude.{◌≡◌, true, ◌≤◌, ◌<◌, length}
 ghost use Rattle.rank1.specs.Axes.{flip};
 ghost use Rattle.rank1.specs.Differences.{negative, Closed};
 ghost use Rattle.rank1.specs.Named.{plan_number};
-ghost use Rattle.planner.specs.Sizes.{axes, largest_size};
+ghost use Rattle.planner.specs.Sizes.{largest_size};
 ghost use Rattle.planner.specs.Inner.{Covered};
-ghost use Rattle.planner.specs.Table.{rows_found, EitherSign, Stored, SeesNoSign, MarksRight};
+ghost use Rattle.planner.specs.Table.{rows_found, EitherSign, SeesNoSign, MarksRight};
 
-use crate::list::Rows;
 use crate::rows::end_of;
 use crate::sizes::AXES;
 use crate::table::Differences;
 use rank1::Plan;
 
 // Changes the sign of every component.
-// kept: the library has no such method, and a loop has a function of its own here.
+// kept: the library has no such method of a slice.
 fn negate(h: &mut [i16])
     requires { Covered largest_size h.old }
     ensures { h.new ≡ negative h.old }
@@ -42,21 +41,21 @@ fn set_flipped(row: &[i16], j: usize, h: &mut [i16])
     ensures { EitherSign (flip j row.now) h.new × Covered largest_size h.new }
 {
     flip_row(row, j, h);
-    let e = end_of(h);
-    if h[e] < 0 {
+    if end_of(h).is_some_and(|e| h[e] < 0) {
         negate(h);
     }
 }
 
 impl Differences {
     // Whether the table stays itself when the sign of axis j changes.
-    fn closed_under(&self, d: usize, j: usize) -> bool
-        requires { (j < d) × Stored d self.now }
-        ensures { result ≡ true → Closed j (rows_found d self.now) }
+    fn closed_under(&self, j: usize) -> bool
+        requires { j < self.now.d }
+        ensures { result ≡ true → Closed j (rows_found self.now) }
     {
         let mut places = [0i16; AXES];
-        let h = &mut places[..d];
-        for row in self.rows[..self.count * d].chunks_exact(d) {
+        let h = &mut places[..self.d];
+        // kept: as an `all` the closure would need clauses of its own for h, which it writes.
+        for row in self.rows[..self.count * self.d].chunks_exact(self.d) {
             set_flipped(row, j, h);
             if !self.stands(h) {
                 return false;
@@ -64,28 +63,28 @@ impl Differences {
         }
         true
     }
-}
 
-// Whether the rule is known not to see the sign of component j.
-fn sees_no_sign(plan: Plan, d: usize, j: usize, found: &Differences) -> bool
-    requires { (j < d) × Stored d found.now }
-    ensures { result ≡ true → SeesNoSign (plan_number plan) d j found.now }
-{
-    if plan == Plan::A {
-        return true;
+    // Whether the rule of a plan is known not to see the sign of component j.
+    fn sees_no_sign(&self, plan: Plan, j: usize) -> bool
+        requires { j < self.now.d }
+        ensures { result ≡ true → SeesNoSign (plan_number plan) j self.now }
+    {
+        if plan == Plan::A {
+            return true;
+        }
+        if !self.whole {
+            return false;
+        }
+        self.closed_under(j)
     }
-    if !found.whole {
-        return false;
-    }
-    found.closed_under(d, j)
-}
 
-// Marks the axes whose sign change keeps the rule of every list whose differences the table has.
-pub(crate) fn set_flips(rows: &Rows, found: &Differences, flips: &mut [bool])
-    requires { (rows.now.d ≤ length flips.old) × Stored rows.now.d found.now }
-    ensures { MarksRight (plan_number rows.now.plan) rows.now.d found.now flips.new }
-{
-    for (j, flip) in flips[..rows.d].iter_mut().enumerate() {
-        *flip = sees_no_sign(rows.plan, rows.d, j, found);
+    // Marks the axes whose sign change keeps the rule of every list whose differences the table has.
+    pub(crate) fn set_flips(&self, plan: Plan, flips: &mut [bool])
+        requires { self.now.d ≤ length flips.old }
+        ensures { MarksRight (plan_number plan) self.now flips.new }
+    {
+        for (j, flip) in flips[..self.d].iter_mut().enumerate() {
+            *flip = self.sees_no_sign(plan, j);
+        }
     }
 }

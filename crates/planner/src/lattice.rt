@@ -1,38 +1,45 @@
-// A rank-1 lattice as the calls on a list read it, and the residue of a row at it.
+// A rank-1 lattice as the calls on a list read it, with the rows of the list, and the residue of a row at it.
 
 ghost use Rattle.std.specs.Prelude.{◌≡◌, ◌<◌};
-ghost use Rattle.rank1.specs.Named.{plan_number};
-ghost use Rattle.rank1.specs.Valid.{ValidCall};
-ghost use Rattle.planner.specs.Lists.{ReadyRow, ReadyRows, residue_by};
+ghost use Rattle.planner.specs.Inner.{Ready};
+ghost use Rattle.planner.specs.ValidOnce.{Ready-prop};
 
 use crate::list::Rows;
 use crate::products::{place_of, prepare_rows};
 use crate::sizes::{PLACES, PRODUCT_ROOM};
 
-// The modulus, the vector, and the products of its components. The vector may be shorter than the rows: they then are 0 from its
-// length on.
+// The rows, the modulus, the vector, and the products of its components. The vector may be shorter than the rows: they then are 0 from
+// its length on. What the residues of the rows ask of all these holds of every lattice.
 #[derive(Clone, Copy)]
-pub(crate) struct Lattice<'a> {
+pub(crate) struct Lattice<'r, 'a> {
+    pub(crate) rows: Rows<'r>,
     pub(crate) n: u16,
     pub(crate) z: &'a [u16],
     pub(crate) products: &'a [u16; PRODUCT_ROOM],
+    ghost ready: { Ready rows.d rows.numbers.now n z.now products.now } by { Ready-prop rows.d rows.numbers.now n z.now products.now },
 }
 
-impl<'a> Lattice<'a> {
-    // The lattice of n and z, with the products of z for the rows of a valid call in the places lent for them.
+impl<'r, 'a> Lattice<'r, 'a> {
+    ghost use Rattle.planner.specs.Lists.{PairFor, ReadyRow, residue_by};
+
+    // The lattice of a valid pair n, z, with the products of z for the rows in the places lent for them.
     // kept: here n, z and the places, which a caller has one by one, become a `Lattice`.
     pub(crate) fn of(
-        rows: &Rows,
+        rows: &Rows<'r>,
         n: u16,
         z: &'a [u16],
         products: &'a mut [u16; PRODUCT_ROOM],
-    ) -> Lattice<'a>
-        requires { ValidCall (plan_number rows.now.plan) rows.now.d rows.now.numbers.now n z.now }
-        ensures made { (result.n ≡ n) × (result.z.now ≡ z.now) }
-        ensures ready { ReadyRows rows.now result }
+    ) -> Lattice<'r, 'a>
+        requires { PairFor n z.now rows.now }
+        ensures { (result.rows ≡ rows.now) × (result.n ≡ n) × (result.z.now ≡ z.now) }
     {
         prepare_rows(rows, n, z, products);
-        Lattice { n, z, products }
+        Lattice {
+            rows: *rows,
+            n,
+            z,
+            products,
+        }
     }
 
     // The residue of a row.
@@ -41,7 +48,8 @@ impl<'a> Lattice<'a> {
         ensures { (result ≡ residue_by self.now row.now) × (result < self.now.n) }
     {
         let mut sum: u32 = 0;
-        // kept: j is the axis of a component and of its products, which stand in one table; a chain over both is no plainer.
+        // kept: j is the axis of a component and of its products; `row.iter().zip(self.products.chunks_exact(PLACES)).take(self.z.len())` would be three
+        // adapters in place of it.
         for j in 0..self.z.len() {
             sum += u32::from(self.products[j * PLACES + place_of(row[j])]);
         }

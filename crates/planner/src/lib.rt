@@ -32,7 +32,7 @@ mod tables;
 mod tent;
 mod vectors;
 
-ghost use Rattle.std.specs.Prelude.{◌≡◌, ◌≤◌};
+ghost use Rattle.std.specs.Prelude.{◌≤◌};
 ghost use Rattle.rank1.specs.Named.{refused};
 ghost use Rattle.rank1.specs.Tests.{Decides};
 ghost use Rattle.rank1.specs.Winner.{LeftWins};
@@ -40,9 +40,10 @@ ghost use Rattle.planner.specs.Answer.{CheckCall, ResidueMapCall, SpreadCall, Ga
 ghost use Rattle.planner.specs.Stage.{SearchBetween};
 
 use crate::lattice::Lattice;
-use crate::list::{Rows, plan_of};
+use crate::list::Rows;
+use crate::points::Cutting;
 use crate::sizes::PRODUCT_ROOM;
-use rank1::Refusal;
+use rank1::{Plan, Refusal};
 
 // Whether the pair n, z meets the rule of the plan for the rows.
 pub fn check(plan: u8, d: usize, rows: &[i16], n: u16, z: &[u16]) -> Result<bool, Refusal>
@@ -65,8 +66,7 @@ pub fn residue_map(
 {
     let rows = refusals::map_refusal(plan, d, rows, n, z, out.len())?;
     let mut products = [0u16; PRODUCT_ROOM];
-    let lattice = Lattice::of(&rows, n, z, &mut products);
-    sums::write_map(&rows, &lattice, out);
+    Lattice::of(&rows, n, z, &mut products).write_map(out);
     Ok(())
 }
 
@@ -84,8 +84,7 @@ pub fn spread(
 {
     let rows = refusals::spread_refusal(plan, d, rows, n, z, terms.len(), sums.len())?;
     let mut products = [0u16; PRODUCT_ROOM];
-    let lattice = Lattice::of(&rows, n, z, &mut products);
-    sums::write_sums(&rows, &lattice, terms, sums);
+    Lattice::of(&rows, n, z, &mut products).write_sums(terms, sums);
     Ok(())
 }
 
@@ -103,8 +102,7 @@ pub fn gather(
 {
     let rows = refusals::gather_refusal(plan, d, rows, n, z, sums, terms.len())?;
     let mut products = [0u16; PRODUCT_ROOM];
-    let lattice = Lattice::of(&rows, n, z, &mut products);
-    sums::write_terms(&rows, &lattice, sums, terms);
+    Lattice::of(&rows, n, z, &mut products).write_terms(sums, terms);
     Ok(())
 }
 
@@ -112,13 +110,13 @@ pub fn gather(
 pub fn point_list(plan: u8, d: usize, n: u16, z: &[u16], out: &mut [u16]) -> Result<(), Refusal>
     ensures { PointListCall plan d n z.now out.old out.new (refused result) }
 {
-    refusals::point_refusal(plan, d, n, z, out.len())?;
-    points::write_points(plan_of(plan), d, n, z, out);
+    let plan = refusals::point_refusal(plan, d, n, z, out.len())?;
+    Cutting { plan, n, z }.write(out);
     Ok(())
 }
 
-// kept: the arguments stand one by one until the list is counted; then they are `Rows`.
 // Both searches: the list is counted, or refused by 1 to 5; then 6 and 8 are left; and the moduli from low to high are run.
+// kept: the arguments stand one by one until the list is counted; then they are `Rows`.
 fn search_between(
     plan: u8,
     d: usize,
@@ -130,9 +128,14 @@ fn search_between(
     requires { 1 ≤ high → 1 ≤ low }
     ensures { SearchBetween plan d rows.now low high z.old z.new result }
 {
+    let named = Plan::try_from(plan)?;
     let tally = lists::tally_list(plan, d, rows)?;
     refusals::range_refusal(d, high, z.len())?;
-    let rows = Rows::given(plan, d, rows);
+    let rows = Rows {
+        plan: named,
+        d,
+        numbers: rows,
+    };
     moduli::first_plan(&rows, tally, low, high, z)
 }
 
@@ -163,6 +166,7 @@ pub fn search_smallest(
 }
 
 // Whether the left one of two vectors wins: the shorter one does, at one length the gentler one, on a full tie the left one.
+// kept: by steps, since the order of vectors of one length is that of `is_gentler`, which is said there alone.
 pub fn left_wins(left: &[u16], right: &[u16]) -> bool
     ensures { Decides result (LeftWins left.now right.now) }
 {

@@ -2,15 +2,13 @@
 // differences in runs as the sieve reads them.
 
 ghost use Rattle.std.specs.Prelude.{◌≡◌};
-ghost use Rattle.planner.specs.Stage.{Differable, Differenced};
+ghost use Rattle.planner.specs.Inner.{Covered};
+ghost use Rattle.planner.specs.Stage.{Differenced};
 
-use crate::fill::fill_table;
-use crate::flips::set_flips;
 use crate::list::Rows;
-use crate::members::Members;
 use crate::products::largest;
 use crate::runs::arrange;
-use crate::sizes::{AXES, MOST_MEMBERS, ROOM, SLOTS};
+use crate::sizes::{AXES, ROOM, SLOTS};
 use crate::table::Differences;
 use crate::tables::ListTables;
 
@@ -34,25 +32,20 @@ pub(crate) struct Task<'a> {
 
 // Sets the differences of a valid list and the marks of the axes whose sign can change.
 pub(crate) fn set_differences(rows: &Rows, list: &mut ListTables) -> Listing
-    requires { Differable rows.now list.old }
+    requires { Covered 0 list.old.components }
     ensures made { Differenced rows.now result list.new.flips list.new.components list.new.bounds }
     ensures only { list.new ≡ record list.old { flips = list.new.flips; components = list.new.components; bounds = list.new.bounds } }
 {
-    let mut members = Members {
-        rows: [0; MOST_MEMBERS * AXES],
-        owners: [0; MOST_MEMBERS],
-        count: 0,
-        whole: true,
-    };
     let mut found = Differences {
+        d: rows.d,
         rows: [0; ROOM * AXES],
-        slots: [0; SLOTS],
+        slots: [None; SLOTS],
         count: 0,
         whole: true,
     };
-    fill_table(rows, &mut members, &mut found);
-    set_flips(rows, &found, &mut list.flips);
-    let tail = arrange(rows.d, &found, &mut list.components, &mut list.bounds);
+    found.fill(rows);
+    found.set_flips(rows.plan, &mut list.flips);
+    let tail = arrange(&found, &mut list.components, &mut list.bounds);
     Listing {
         top: largest(rows.numbers).max(largest(&found.rows)),
         tail,

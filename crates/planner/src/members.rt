@@ -2,24 +2,28 @@
 // mirrors are made by doubling: axis by axis, where the row is not 0, what stands there of them is copied behind it with the other
 // sign. Signs are changed on the first `span` axes: on fewer than all, or where there is no room for all mirrors, those that are made
 // stay: what they tell is true, but not all that there is to tell.
+// kept: the axis, the number from which a row's members stand and their owner go one by one: the axis is another at each call, and a struct of the
+// other two would be opened in each clause.
 
-ghost use Rattle.std.specs.Prelude.{◌≡◌, [], ◌+◌, ◌-◌, ◌≤◌, ◌<◌, length, get_or};
+ghost use Rattle.std.specs.Prelude.{[], ◌+◌, ◌-◌, ◌≤◌, ◌<◌, length, get_or};
 ghost use Rattle.rank1.specs.Axes.{flip};
 ghost use Rattle.rank1.specs.Index.{rows_of};
 ghost use Rattle.rank1.specs.Named.{plan_number};
 ghost use Rattle.planner.specs.Sizes.{axes, most_members};
-ghost use Rattle.planner.specs.Lists.{rows_in, ValidRows};
+ghost use Rattle.planner.specs.Lists.{rows_in};
 ghost use Rattle.planner.specs.Members.{SmallRow, Pushed, Gathering, MembersStay, Doubles, Doubled, Mirroring, RowMembers};
 
 use crate::flips::flip_row;
 use crate::list::Rows;
+use crate::mirrors::takes_mirrors;
 use crate::rows::row_at;
 use crate::sizes::{AXES, MOST_MEMBERS};
 use rank1::Plan;
 
 // The members that are made: `count` rows, one behind the other, beside each the number of the row of the list that it belongs to, its
 // owner; and whether these are all members.
-// kept: the rows and their owners stand in runs of their own, since no heap is asked for a `Vec` of both, and pairs are made of these rows as of the list's.
+// kept: the rows and their owners stand in runs of their own: pairs are made of these rows as of the list's, which are one run of numbers; and a count
+// says how many there are, since no heap is asked for a `Vec`.
 // `whole` is no sign of whether there are members: those that have room are paired either way, so an Option does not say it.
 #[derive(Drop)]
 pub(crate) struct Members {
@@ -107,22 +111,26 @@ impl Members {
             return;
         }
         self.push(row, owner);
-        match plan {
-            Plan::Integration | Plan::Fourier => {}
-            Plan::A | Plan::B | Plan::C => self.add_signs(row, span, from, owner),
+        if takes_mirrors(plan) {
+            self.add_signs(row, span, from, owner);
         }
     }
 
-    // Gathers the members of a valid list anew, by the signs of the first `span` axes.
-    pub(crate) fn gather(&mut self, rows: &Rows, span: usize)
-        requires { ValidRows rows.now × (span ≤ rows.now.d) }
-        ensures { Gathering (plan_number rows.now.plan) rows.now.d (rows_in rows.now) self.new }
+    // The members of a valid list, by the signs of the first `span` axes.
+    pub(crate) fn gather(rows: &Rows, span: usize) -> Members
+        requires { span ≤ rows.now.d }
+        ensures { Gathering (plan_number rows.now.plan) rows.now.d (rows_in rows.now) result }
     {
-        self.count = 0;
-        self.whole = true;
+        let mut members = Members {
+            rows: [0; MOST_MEMBERS * AXES],
+            owners: [0; MOST_MEMBERS],
+            count: 0,
+            whole: true,
+        };
         for (i, row) in rows.each().enumerate() {
             // kept: a list has at most 512 rows; `try_from` would have an `Err` that never comes.
-            self.add_mirrors(rows.plan, row, span, i as u16);
+            members.add_mirrors(rows.plan, row, span, i as u16);
         }
+        members
     }
 }

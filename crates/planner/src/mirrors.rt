@@ -13,7 +13,7 @@ use crate::sizes::{MOST_MIRRORS, PLACES};
 use rank1::Plan;
 
 // How many mirrors a row has, as the residues of them ask (`lists` counts them). The doubling would know it too.
-// kept: document 01 has the mirrors counted by the ones of a mask.
+// kept: document 01 names this form, the ones of a mask.
 fn mirror_count(row: &[i16]) -> usize
     requires { length row.now ≤ axes }
     ensures { (result ≡ length (mirrors row.now)) × (1 ≤ result) × (result ≤ most_mirrors) }
@@ -27,7 +27,8 @@ fn reflect(out: &mut [u16; MOST_MIRRORS], count: usize, step: u16, n: u16)
     requires by_index { (t : ℕ) → t < count → get_or out.old t 0 < n }
     ensures { take (count + count) out.new ≡ take count out.old ++ map (λ r. (r + step) % n) (take count out.old) }
 {
-    // kept: what is read and what is written are parts of one array, and a chain over the two is no plainer.
+    // kept: an index: after a `zip` with `iter_mut` a proof knows nothing of what was written. And a count beside the array says how many places
+    // are set, since no heap is asked for a `Vec`.
     for t in 0..count {
         out[count + t] = sum_of(out[t], step, n);
     }
@@ -43,7 +44,7 @@ pub(crate) fn takes_mirrors(plan: Plan) -> bool
     }
 }
 
-impl<'a> Lattice<'a> {
+impl<'r, 'a> Lattice<'r, 'a> {
     // The residues of a row's mirrors, written to the places lent for them: from the last axis to the first, each component that is
     // not 0 doubles what stands there.
     pub(crate) fn mirror_residues<'b>(
@@ -68,17 +69,16 @@ impl<'a> Lattice<'a> {
         &out[..mirror_count(row)]
     }
 
-    // The residues of the rows that S(k) stands for under a plan: the mirrors under plans A, B and C, else the row alone.
+    // The residues of the rows that S(k) stands for under the rows' plan: the mirrors under plans A, B and C, else the row alone.
     pub(crate) fn residues_under<'b>(
         &self,
-        plan: Plan,
         row: &[i16],
         out: &'b mut [u16; MOST_MIRRORS],
     ) -> &'b [u16]
         requires { ReadyRow self.now row.now }
-        ensures { (result.now ≡ map (residue_by self.now) (mirrors_under (plan_number plan) row.now)) × (1 ≤ length result.now) × (length result.now ≤ most_mirrors) }
+        ensures { (result.now ≡ map (residue_by self.now) (mirrors_under (plan_number self.now.rows.plan) row.now)) × (1 ≤ length result.now) × (length result.now ≤ most_mirrors) }
     {
-        if takes_mirrors(plan) {
+        if takes_mirrors(self.rows.plan) {
             return self.mirror_residues(row, out);
         }
         out[0] = self.residue(row);

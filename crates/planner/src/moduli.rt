@@ -1,5 +1,7 @@
 // The moduli upward: at each one the tables of the modulus are set and the search is run. Moduli below the tally's bound fail by
 // counting, so the tables of the list are made only where a modulus is left.
+// kept: low and high stand one by one: low is raised by the tally's bound and high is held against that, so a `RangeInclusive`, which is no Copy,
+// would be taken apart and made anew.
 
 ghost use Rattle.std.specs.Prelude.{◌≡◌, ◌≤◌, max, length};
 ghost use Rattle.rank1.specs.Named.{plan_number};
@@ -21,6 +23,7 @@ use rank1::{Plan, Refusal, Tally};
 
 // Runs the moduli from low to high: the first that does not fail, with its gentlest vector in `best`. The tables of a modulus and the
 // work are made here, once for all.
+// kept: `best` is lent beside the answer, as to `gentlest_vector`.
 fn first_modulus(task: &Task, low: u16, high: u16, best: &mut [u16]) -> Option<u16>
     requires tabled { Tabled task.now }
     requires le_low { (1 ≤ low) × (high ≤ largest_modulus) × (length best.old ≡ task.now.rows.d) }
@@ -35,9 +38,10 @@ fn first_modulus(task: &Task, low: u16, high: u16, best: &mut [u16]) -> Option<u
         sums: [0; AXES * ROOM],
         products: [0; PRODUCT_ROOM],
         struck: [false; AXES * LARGEST_MODULUS + 1],
-        owners: [0; LARGEST_MODULUS],
+        owners: [None; LARGEST_MODULUS],
+        taken: [false; LARGEST_MODULUS],
     };
-    // kept: a turn writes the tables and the best vector through lent places, so a closure for `find` is no plainer.
+    // kept: as a `find` the closure would need clauses of its own for the tables, the work and the vector that each turn writes.
     for n in low..=high {
         if gentlest_vector(task, n, &mut modulus, &mut work, best) {
             return Some(n);

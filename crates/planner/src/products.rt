@@ -1,12 +1,13 @@
 // Product tables: for each axis the residues of the products of z's component with every component that a row or a difference can have. So the
 // residue of a row is a sum of entries and one division, with no product and no sign in it.
 // kept: `set_axis`, `prepare` and `prepare_rows` make the table that a `Lattice` then lends, so n, z and the places stand one by one.
+// kept: n is a plain number and its bound a clause: n is read in every sum here, and a struct would be opened at each.
 
-ghost use Rattle.std.specs.Prelude.{◌≡◌, ℕ, ◌+◌, ◌-◌, ◌*◌, ◌%◌, ◌≤◌, ◌<◌, nat_abs, length, get_or, take, drop};
-ghost use Rattle.rank1.specs.Named.{plan_number};
-ghost use Rattle.rank1.specs.Valid.{ValidModulus, ValidCall};
-ghost use Rattle.planner.specs.Sizes.{axes, largest_modulus, largest_size, places, product_room};
+ghost use Rattle.std.specs.Prelude.{◌≡◌, ℕ, ◌+◌, ◌-◌, ◌*◌, ◌%◌, ◌≤◌, ◌<◌, nat_abs, length, get_or};
+ghost use Rattle.rank1.specs.Valid.{ValidModulus};
+ghost use Rattle.planner.specs.Sizes.{axes, largest_modulus, largest_size, places};
 ghost use Rattle.planner.specs.Inner.{place, Products, AxisSet, Covered, Ready};
+ghost use Rattle.planner.specs.Lists.{PairFor};
 
 use crate::list::Rows;
 use crate::sizes::{MIDDLE, PLACES, PRODUCT_ROOM};
@@ -20,7 +21,8 @@ pub(crate) fn place_of(x: i16) -> usize
     (x + MIDDLE as i16) as usize
 }
 
-// The largest size of a component; no components have 0. kept: a chain of the library's, of which it is proved once here that it covers the rows.
+// The largest size of a component; no components have 0.
+// kept: one name for the library's chain: two callers need its promise, proved here once.
 pub(crate) fn largest(rows: &[i16]) -> usize
     requires { Covered largest_size rows.now }
     ensures { Covered result rows.now }
@@ -49,8 +51,8 @@ pub(crate) fn sum_of(p: u16, q: u16, n: u16) -> u16
 }
 
 // Sets the products of v on one axis, for the numbers of size at most top.
-pub(crate) fn set_axis(products: &mut [u16], axis: usize, v: u16, n: u16, top: usize)
-    requires { (axis < axes) × (length products.old ≡ product_room) × (v < n) × ValidModulus n × (top ≤ largest_size) }
+pub(crate) fn set_axis(products: &mut [u16; PRODUCT_ROOM], axis: usize, v: u16, n: u16, top: usize)
+    requires { (axis < axes) × (v < n) × ValidModulus n × (top ≤ largest_size) }
     ensures { AxisSet n v axis top products.old products.new }
 {
     let middle = axis * PLACES + MIDDLE;
@@ -74,9 +76,9 @@ fn prepare(z: &[u16], n: u16, top: usize, products: &mut [u16; PRODUCT_ROOM])
     }
 }
 
-// Sets the products of z for the rows of a valid call.
+// Sets the products of z for the rows; n and z are a valid pair for them.
 pub(crate) fn prepare_rows(rows: &Rows, n: u16, z: &[u16], products: &mut [u16; PRODUCT_ROOM])
-    requires { ValidCall (plan_number rows.now.plan) rows.now.d rows.now.numbers.now n z.now }
+    requires { PairFor n z.now rows.now }
     ensures { Ready rows.now.d rows.now.numbers.now n z.now products.new }
 {
     prepare(z, n, largest(rows.numbers), products);

@@ -15,6 +15,7 @@ use crate::tables::{ModulusTables, Work};
 use crate::vectors::largest_of;
 
 // The rounds below the largest component of the vector found last, which stands in z at first and in `best` at the end.
+// kept: z and work stand one by one as they do in `Search::complete`.
 fn lower(s: &Search, z: &mut [u16], work: &mut Work, best: &mut [u16])
     requires { Lowerable s.now z.old work.old best.old }
     ensures { Lowered s.now work.new best.new }
@@ -31,6 +32,7 @@ fn lower(s: &Search, z: &mut [u16], work: &mut Work, best: &mut [u16])
 
 // The gentlest vector at n in `best`, or n fails with every vector: first all n values are tried, with every prune. Rows that end early
 // are left to the sieve where no difference was turned away and every last component has its solutions.
+// kept: a bool beside `best`, which has a component for each axis of the list: an Option would hand over six, of which callers take the first d.
 pub(crate) fn gentlest_vector(
     task: &Task,
     n: u16,

@@ -12,11 +12,14 @@
 // | sign changes: no component above n / 2 | value_end, marks of flips.rt | flip-first, differences-flip (high_passed) |
 // | differences: no difference of a pair kept apart has residue 0 | sieve_at, sieve.rt | struck-out (forbidden-none) |
 //
+// kept: a component's number, the vector and the work are told one by one from call to call of the recursion: the number is another at each, and the
+// two are lent.
+//
 // The last vector is checked whole, so what the tables leave out costs time and no answer. Scaling holds only where all n values
 // of a component are tried, in the first round of a modulus (rounds.rt); the other prunes hold with fewer values too.
 
-ghost use Rattle.std.specs.Prelude.{◌≡◌, true, false, ◌+◌, ◌*◌, ◌≤◌, ◌<◌, length};
-ghost use Rattle.planner.specs.Sizes.{axes, largest_modulus};
+ghost use Rattle.std.specs.Prelude.{◌≡◌, true, false, ◌≤◌, ◌<◌, length};
+ghost use Rattle.planner.specs.Sizes.{axes};
 ghost use Rattle.planner.specs.Stage.{Listed, Prefixed, EndsHold, Raised, Lowest, ValueEnd, NextFree, CannotLead, Siftable, Sifted, Summable, SumsAdded, Triable, Tried, below, Stage, KeptBefore, CompletedOf};
 
 use crate::lattice::Lattice;
@@ -24,7 +27,6 @@ use crate::levels::level_at;
 use crate::list::Rows;
 use crate::listing::Task;
 use crate::products::set_axis;
-use crate::rule::keeps_rule;
 use crate::sieve::{set_sums, sieve, sieve_first};
 use crate::sizes::{AXES, LARGEST_MODULUS, LASTS};
 use crate::tables::{ModulusTables, Work};
@@ -50,11 +52,11 @@ fn raised(low: u16, mark: bool, x: u16) -> u16
 }
 
 // The first value from `from` on that is not struck, where there is one before the end.
-fn next_free(base: usize, from: u16, end: u16, struck: &[bool]) -> Option<u16>
-    requires { (base + end ≤ length struck.now) × (base ≤ axes * largest_modulus) }
-    ensures { NextFree base from end struck.now result }
+fn next_free(from: u16, end: u16, struck: &[bool]) -> Option<u16>
+    requires { end ≤ length struck.now }
+    ensures { NextFree from end struck.now result }
 {
-    (from..end).find(|v| !struck[base + usize::from(*v)])
+    (from..end).find(|v| !struck[usize::from(*v)])
 }
 
 impl<'a> Search<'a> {
@@ -76,9 +78,8 @@ impl<'a> Search<'a> {
         ensures { Lowest self.now at z.now result }
     {
         let mut low = 0;
-        // kept: i is an axis, with a place in the marks by both axes and another in z.
-        for i in 0..at {
-            low = raised(low, self.task.list.swaps[i * AXES + at], z[i]);
+        for (i, x) in z[..at].iter().enumerate() {
+            low = raised(low, self.task.list.swaps[i * AXES + at], *x);
         }
         if at == 0 { self.start } else { low }
     }
@@ -116,21 +117,23 @@ impl<'a> Search<'a> {
         requires listed { Listed self.now.task }
         requires prefixed { Prefixed self.now at z.now work.old.products }
         ensures holds { EndsHold self.now at z.now result }
-        ensures only { work.new ≡ record work.old { owners = work.new.owners } }
+        ensures only { work.new ≡ record work.old { owners = work.new.owners; taken = work.new.taken } }
     {
         if self.sieved {
             return true;
         }
         let ending = Rows {
+            plan: self.task.rows.plan,
+            d: self.task.rows.d,
             numbers: level_at(at, self.task.list),
-            ..self.task.rows
         };
         let lattice = Lattice {
+            rows: ending,
             n: self.n,
             z: &z[..at],
             products: &work.products,
         };
-        keeps_rule(&ending, &lattice, &mut work.owners)
+        lattice.keeps_rule(&mut work.owners, &mut work.taken)
     }
 
     // Marks the values of component at that a difference forbids.
@@ -193,6 +196,8 @@ impl<'a> Search<'a> {
     }
 
     // Completes z from component at on: the values that are left are tried from the lowest up. The vector is checked whole.
+    // kept: z is made for one modulus and work once for all, and `ends_hold` reads a part of z while the owners in work are written: a struct
+    // of the two would be made for each modulus and taken apart in each call. And a bool, since z is built where it stands.
     pub(crate) fn complete(&self, at: usize, z: &mut [u16], work: &mut Work) -> bool
         requires { Stage self.now at z.old work.old }
         ensures completed { CompletedOf self.now at z.old z.new result }
@@ -200,17 +205,18 @@ impl<'a> Search<'a> {
     {
         if at == self.task.rows.d {
             let lattice = Lattice {
+                rows: self.task.rows,
                 n: self.n,
                 z,
                 products: &work.products,
             };
-            return keeps_rule(&self.task.rows, &lattice, &mut work.owners);
+            return lattice.keeps_rule(&mut work.owners, &mut work.taken);
         }
         self.sieve_at(at, work);
         let base = at * LARGEST_MODULUS;
         let low = self.lowest(at, z);
         let end = self.value_end(at);
-        let Some(first) = next_free(base, low, end, &work.struck) else {
+        let Some(first) = next_free(low, end, &work.struck[base..]) else {
             return false;
         };
         self.add_sums(at, work);

@@ -1,11 +1,13 @@
 // The sieve: which values of a component the differences that end at its axis rule out, all at once. The contracts are about
 // soundness: a mark has a reason. That none is missing is speed.
+// kept: n beside the marks that are lent: the values are numbers of 16 bits below n, and the length of a slice is none. And the tables of the list and
+// those of the modulus are lent side by side: those of the list last for all moduli, the others for one.
 
-ghost use Rattle.std.specs.Prelude.{◌≡◌, MatchOption, ℕ, suc, ◌+◌, ◌*◌, ◌%◌, ◌≤◌, ◌<◌, nat_abs, length, get_or};
+ghost use Rattle.std.specs.Prelude.{◌≡◌, MatchOption, suc, ◌+◌, ◌*◌, ◌%◌, ◌≤◌, ◌<◌, nat_abs, length, get_or};
 ghost use Rattle.rank1.specs.Valid.{ValidModulus};
 ghost use Rattle.planner.specs.Sieve.{Markable, Marking, SolutionsSet, SolutionsOf, Tabulable, TablesTo, Strikable, Struck, Readable, SumsSet, RunAsked, RunStart, Sievable, Barred, AllBarred, Sieved, FirstSievable, FirstBarred, AllFirstBarred};
 ghost use Rattle.planner.specs.Inner.{place};
-ghost use Rattle.planner.specs.Sizes.{axes, largest_modulus, largest_size, places, room, lasts};
+ghost use Rattle.planner.specs.Sizes.{axes, largest_size, places, room, lasts};
 
 use crate::products::{negative, place_of, sum_of};
 use crate::runs::occurs;
@@ -39,7 +41,7 @@ pub(crate) fn set_sums(
 
 // What is fixed before the axis that is sieved: the modulus, the axis before it, and the sums and products up to there.
 // kept: without the tables of the list and of the modulus. Tried with them, and the functions that take them as methods: it proves, and on five axes
-// with 2 rows under plan A `plan` then takes 1.63 times the peer's time, with this form 1.46 (at most 1.5).
+// with 2 rows under plan A `plan` then took 1.63 times the peer's time where this form took 1.46 (at most 1.5).
 #[derive(Clone, Copy)]
 struct Prefix<'a> {
     n: u16,
@@ -48,71 +50,75 @@ struct Prefix<'a> {
     products: &'a [u16],
 }
 
-// The differences of a run without their last components: their sums before the axis before last, their components on that axis, and
-// its products.
-// kept: without the modulus, the last component and its solutions. Tried with them, and the functions below as methods: it proves, and `plan` takes
-// no less time than as said at `Prefix`.
-#[derive(Clone, Copy)]
-struct RunParts<'a> {
-    sums: &'a [u16],
-    components: &'a [i16],
-    products: &'a [u16],
-}
-
-// The residue of the part of a difference before the axis at which its run ends, from its sum and its component x on the axis before.
-fn part_of(n: u16, run: &RunParts, sum: u16, x: i16) -> u16
-    requires modulus { ValidModulus n × (length run.now.products.now ≡ places) }
-    requires small { (nat_abs x ≤ largest_size) × (sum < n) × (get_or run.now.products.now (place x) 0 < n) }
-    ensures { (result ≡ (sum + get_or run.now.products.now (place x) 0) % n) × (result < n) }
-{
-    sum_of(sum, run.products[place_of(x)], n)
-}
-
 // Marks v and what is a number of steps behind it, below n.
 fn mark_steps(n: u16, v: u16, step: u16, struck: &mut [bool])
     requires { Markable n step struck.old }
     ensures { Marking v step struck.old struck.new }
 {
+    // kept: w is a value and its mark stands at it; `struck[..].iter_mut().skip(..).step_by(..)` would be a slice and two adapters in place of one range.
     for w in (v..n).step_by(usize::from(step)) {
         struck[usize::from(w)] = true;
     }
 }
 
-// Strikes, for each difference of a run that ends with component t, all its solutions, which are one step apart.
-// kept: i reads two slices. Tried as a `zip`, as in the next function: it proves, and takes 0.8 to 4.1 % more instructions on five of bench/'s slower
-// lists and more time on four (on three axes with 80 rows under plan C 1.28 times the peer's, where an index took 0.93).
-fn strike_steps(n: u16, t: usize, step: u16, run: &RunParts, solutions: &[u16], struck: &mut [bool])
-    requires { Strikable n run.now.sums.now run.now.components.now run.now.products.now t step solutions.now struck.old }
-    ensures { Struck n run.now.sums.now run.now.components.now run.now.products.now t struck.old struck.new }
-{
-    for i in 0..run.sums.len() {
-        let c = part_of(n, run, run.sums[i], run.components[i]);
-        mark_steps(n, solutions[usize::from(c)], step, struck);
-    }
+// The differences of a run: their sums before the axis before last, their components on that axis, and its products; and of the last
+// component t, with which they all end, the solutions and how far apart they are. No code reads t: the contracts speak of it.
+// kept: what is known of a Run is a clause and no ghost field: `strike_run` makes one and asks it to strike at once, so the field would be proved where the
+// clause is.
+#[derive(Clone, Copy)]
+struct Run<'a> {
+    n: u16,
+    t: usize,
+    step: u16,
+    sums: &'a [u16],
+    components: &'a [i16],
+    products: &'a [u16],
+    solutions: &'a [u16],
 }
 
-// Strikes, for each difference of a run that ends with component t, its one solution. There is no test: where a difference has
-// none, mark n is set, which stands for no value.
-fn strike_single(n: u16, t: usize, run: &RunParts, solutions: &[u16], struck: &mut [bool])
-    requires { Strikable n run.now.sums.now run.now.components.now run.now.products.now t n solutions.now struck.old }
-    ensures { Struck n run.now.sums.now run.now.components.now run.now.products.now t struck.old struck.new }
-{
-    for (sum, x) in run.sums.iter().zip(run.components) {
-        let c = part_of(n, run, *sum, *x);
-        struck[usize::from(solutions[usize::from(c)])] = true;
+impl<'a> Run<'a> {
+    // The residue of the part of a difference before the axis at which the run ends, from its sum and its component x on the axis before.
+    fn part_of(&self, sum: u16, x: i16) -> u16
+        requires modulus { ValidModulus self.now.n × (length self.now.products.now ≡ places) }
+        requires small { (nat_abs x ≤ largest_size) × (sum < self.now.n) × (get_or self.now.products.now (place x) 0 < self.now.n) }
+        ensures { (result ≡ (sum + get_or self.now.products.now (place x) 0) % self.now.n) × (result < self.now.n) }
+    {
+        sum_of(sum, self.products[place_of(x)], self.n)
     }
-}
 
-// Strikes all solutions of the differences of a run that ends with component t: one each where t has an inverse modulo n, else
-// none or some that are a step apart.
-fn strike(n: u16, t: usize, step: u16, run: &RunParts, solutions: &[u16], struck: &mut [bool])
-    requires { Strikable n run.now.sums.now run.now.components.now run.now.products.now t step solutions.now struck.old }
-    ensures { Struck n run.now.sums.now run.now.components.now run.now.products.now t struck.old struck.new }
-{
-    if step == n {
-        strike_single(n, t, run, solutions, struck);
-    } else {
-        strike_steps(n, t, step, run, solutions, struck);
+    // Strikes all solutions of each difference, one step apart.
+    fn strike_steps(&self, struck: &mut [bool])
+        requires { Strikable self.now struck.old }
+        ensures { Struck self.now struck.old struck.new }
+    {
+        for (sum, x) in self.sums.iter().zip(self.components) {
+            let c = self.part_of(*sum, *x);
+            mark_steps(self.n, self.solutions[usize::from(c)], self.step, struck);
+        }
+    }
+
+    // Strikes the one solution of each difference. There is no test: where a difference has none, mark n is set, which stands for no value.
+    // kept: beside strike_steps: most strikes are here, and are made without the loop and the test of `mark_steps` (docs/DECISIONS.md, "Speed").
+    fn strike_single(&self, struck: &mut [bool])
+        requires { Strikable self.now struck.old }
+        ensures { Struck self.now struck.old struck.new }
+    {
+        for (sum, x) in self.sums.iter().zip(self.components) {
+            let c = self.part_of(*sum, *x);
+            struck[usize::from(self.solutions[usize::from(c)])] = true;
+        }
+    }
+
+    // Strikes all solutions of all differences: one each where t has an inverse modulo n, else none or some that are a step apart.
+    fn strike(&self, struck: &mut [bool])
+        requires { Strikable self.now struck.old }
+        ensures { Struck self.now struck.old struck.new }
+    {
+        if self.step == self.n {
+            self.strike_single(struck);
+        } else {
+            self.strike_steps(struck);
+        }
     }
 }
 
@@ -147,12 +153,16 @@ fn strike_run(
             let behind = axis + PLACES;
             let start = modulus.starts[t];
             let stop = start + usize::from(n);
-            let run = RunParts {
+            let run = Run {
+                n,
+                t,
+                step,
                 sums: &prefix.sums[begin..end],
                 components: &list.components[begin..end],
                 products: &prefix.products[axis..behind],
+                solutions: &modulus.solutions[start..stop],
             };
-            strike(n, t, step, &run, &modulus.solutions[start..stop], struck);
+            run.strike(struck);
         }
     }
 }
@@ -165,7 +175,7 @@ fn next_run(at: usize, bound: usize) -> usize
     bound.max(at + 1)
 }
 
-// Sieves among the marks of the axis behind `before` alone: those that are left have been struck by one of its runs. The walk goes from
+// Sieves among the marks of the axis behind `before` alone: those that are set have been struck by one of its runs. The walk goes from
 // run to run: `at` is the place of a run's first difference among the numbers of axis `before`, and ROOM places on, among those of the
 // axis behind, stands its last component. Where the next run starts is looked up before this one is struck: the processor then need not
 // wait for it.
@@ -178,8 +188,8 @@ fn strike_runs(prefix: &Prefix, list: &ListTables, modulus: &ModulusTables, stru
     let before = prefix.before;
     let end = run_start(&list.bounds, before, LASTS);
     let mut at = run_start(&list.bounds, before, 0);
-    // kept: no range goes from run to run. Tried as a `for` over the last components from 1 to the largest, each asked for its run: it proves, and takes
-    // 17 % more instructions on five axes with 2 rows under plan A, where this form takes 1.45 times the peer's time (at most 1.5).
+    // kept: no range goes from run to run. Tried as a `for` over the last components from 1 to the largest, each asked for its run: it proves, and on
+    // five axes with 2 rows under plan A `plan` then takes 1.70 times the peer's time, with this form 1.38 (at most 1.5).
     while at < end {
         let t = usize::from(list.components[at + ROOM].unsigned_abs());
         let next = next_run(at, run_start(&list.bounds, before, t + 1));
@@ -212,6 +222,7 @@ pub(crate) fn sieve_first(
     ensures { AllFirstBarred n bounds.now marks.old marks.new }
 {
     marks.fill(false);
+    // kept: t is a last component: its run lies between two bounds, and its step stands in another table.
     for t in 1..=tail {
         strike_first(n, t, bounds, steps, marks);
     }
@@ -263,6 +274,8 @@ fn set_solutions(n: u16, t: u16, solutions: &mut [u16]) -> u16
 
 // Gives t a table of solutions behind the first `at` numbers, if some difference ends with component t, and returns how many
 // numbers there are then; None where there is no room for it.
+// kept: how many numbers there are goes from one turn of `set_modulus` to the next and is asked by nobody else, so it is no field of the tables; and the
+// list is read while the tables of the modulus are written, so the two are lent apart.
 fn add_table(
     n: u16,
     d: usize,
@@ -282,7 +295,7 @@ fn add_table(
     if SOLUTION_ROOM < end {
         return None;
     }
-    // kept: t is below LASTS, and try_from would hand back an error that never comes.
+    // kept: t is below LASTS; `try_from` would have an `Err` that never comes.
     modulus.steps[t] = Some(set_solutions(n, t as u16, &mut modulus.solutions[at..end]));
     modulus.starts[t] = at;
     Some(end)
@@ -302,6 +315,7 @@ pub(crate) fn set_modulus(
 {
     modulus.steps.fill(None);
     let mut at = 0;
+    // kept: t is a last component; as a `try_fold` the closure would need clauses of its own for the tables that each turn writes.
     for t in 1..=tail {
         let Some(end) = add_table(n, d, t, at, list, modulus) else {
             return false;

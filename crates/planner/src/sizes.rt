@@ -1,14 +1,18 @@
-// The sizes of the tables, by name; specs/Sizes.antt has the same numbers for the contracts.
+// The sizes of the tables, by name; specs/Sizes.antt gives them the names that contracts have.
+// kept: a table of several axes is one run, at axis * SIZE + place, and no array of arrays: what clauses say of each of its numbers, as that it is
+// small or still 0, they say of one list. And no array of arrays holds `bounds`, where the last run of an axis ends at the number where the first
+// of the next begins, nor `struck`, where mark n of an axis can be mark 0 of the next.
 
 // The limits of document 01.
-pub(crate) const AXES: usize = 6;
+pub(crate) const AXES: usize = rank1::MOST_AXES;
 
-pub(crate) const MOST_ROWS: usize = 512;
+pub(crate) const MOST_ROWS: usize = rank1::MOST_ROWS;
 
-pub(crate) const LARGEST_MODULUS: usize = 8192;
+// kept: `as`, since the value of a constant calls no `from`.
+pub(crate) const LARGEST_MODULUS: usize = rank1::LARGEST_MODULUS as usize;
 
 // The mirrors of a row: 2 to the number of axes.
-pub(crate) const MOST_MIRRORS: usize = 64;
+pub(crate) const MOST_MIRRORS: usize = rank1::MOST_MIRRORS;
 
 // A component of a row or of a difference has at most 510 in size; the product of x stands at place MIDDLE + x of its axis.
 pub(crate) const MIDDLE: usize = 511;

@@ -18,8 +18,10 @@ pub(crate) struct ListTables {
 
 // The tables of a modulus: for the last components of the differences the solutions, where they begin, and how far apart they are, where there is room
 // for them.
-// kept: n stands for no solution. An Option has four bytes in place of two: 512 KiB more beside the 1,040 KiB of stack that `plan` needs, where less
+// kept: n stands for no solution. An Option has four bytes in place of two: 512 KiB more beside the 1,160 KiB of stack that `plan` needs, where less
 // than 1.5 MiB are promised; and the sieve's inner loop would test it, which sets mark n without a test.
+// kept: starts and steps apart. Tried as one table of an Option of both: it proves, and on five axes with 2 rows under plan A three builds of `plan` with it
+// took 1.56 to 1.65 times the peer's time; the one with nothing else changed took 1.57, and with this form 1.38 (at most 1.5).
 #[derive(Drop)]
 pub(crate) struct ModulusTables {
     pub(crate) solutions: [u16; SOLUTION_ROOM],
@@ -27,12 +29,13 @@ pub(crate) struct ModulusTables {
     pub(crate) steps: [Option<u16>; LASTS],
 }
 
-// What the recursion writes beside the vector: the sums of the differences' parts, the products of the axes, the struck values and the
-// owners of the residues.
+// What the recursion writes beside the vector: the sums of the differences' parts, the products of the axes, the struck values, the row
+// that owns a residue and the residues that are taken.
 #[derive(Drop)]
 pub(crate) struct Work {
     pub(crate) sums: [u16; AXES * ROOM],
     pub(crate) products: [u16; PRODUCT_ROOM],
     pub(crate) struck: [bool; AXES * LARGEST_MODULUS + 1],
-    pub(crate) owners: [u16; LARGEST_MODULUS],
+    pub(crate) owners: [Option<u16>; LARGEST_MODULUS],
+    pub(crate) taken: [bool; LARGEST_MODULUS],
 }

@@ -8,6 +8,7 @@
 //
 // At exactly half 2r, n and 2n - 2r are one number, so a wrong border would not be seen in the numerator. Which case r meets is
 // therefore an answer of its own, and what a case gives is another.
+// kept: n and r are two numbers as in document 02's table; a struct of them would be made for one call and opened in each line.
 
 ghost use Rattle.std.specs.Prelude.{◌≡◌, ◌≤◌, ◌<◌};
 ghost use Rattle.rank1.specs.Points.{tent};

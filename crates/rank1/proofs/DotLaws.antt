@@ -108,7 +108,7 @@ dot_nothing (x ∷ h) (y ∷ z) f =
     ∙ dot_nothing h z (λ i l. f (suc i) (omega arith))
 
 -- a vector without components
-dot-empty : (h : List ℤ) → dot h [] ≡ pos 0
+pub dot-empty : (h : List ℤ) → dot h [] ≡ pos 0
 dot-empty [] = refl
 dot-empty (x ∷ h) = refl
 

@@ -13,6 +13,7 @@ use lib.IntN.{ℤ, pos, nat_abs, ◌+ℤ◌, ◌*ℤ◌, +ℤ_idr}
 use lib.Signed.{mag, quot_z}
 use lib.ListN.{length, get_or, length-map}
 use lib.Seq.{ext_get_or}
+use Rattle.std.proofs.lemmas.List.{get_or-map}
 use Rattle.rank1.specs.Tests.{every}
 use Rattle.rank1.specs.Residue.{dot, residue_at}
 use Rattle.rank1.specs.Rule.{Reconstructs, PlanA, PlanB, PlanC, Admissible}
@@ -21,7 +22,7 @@ use Rattle.rank1.specs.Valid.{Distinct, Nonnegative}
 use Rattle.rank1.proofs.Distinct.{member_at}
 use Rattle.rank1.proofs.ResidueLaws.{residue-lt}
 use Rattle.rank1.proofs.MirrorLaws.{mirror_self, mirrored_in, mirrors-differ}
-use Rattle.rank1.proofs.UpTo.{get_d_map, get_or-up_to}
+use Rattle.rank1.proofs.UpTo.{get_or-up_to}
 use Rattle.rank1.proofs.TestLaws.{true_every}
 use Rattle.rank1.proofs.CountLaws.{every_cong, map-members, at_places}
 use Rattle.rank1.proofs.WholeSums.{quot_mul, rem_mul, mag_in32}
@@ -88,7 +89,7 @@ module _ (plan n : ℕ) (z : List ℤ) where
       where
         back : (j : ℕ) → j < length ks → get_or (gathered_terms plan n z ks (spread_sums plan n z ks terms)) j (pos 0) ≡ get_or terms j (pos 0)
         back j h =
-            get_d_map (gathered_term plan n z (spread_sums plan n z ks terms)) ks j [] (pos 0) h
+            get_or-map (gathered_term plan n z (spread_sums plan n z ks terms)) ks j [] (pos 0) h
             ∙ ap (λ (s : ℤ). quot_z s (pos (copies plan n z (get_or ks j [])))) (spread_at_row j h)
             ∙ quot_mul (get_or terms j (pos 0)) (copies plan n z (get_or ks j [])) (copies_some plan n z (get_or ks j []))
 

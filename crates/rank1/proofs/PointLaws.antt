@@ -35,13 +35,6 @@ lines_half plan n l = ap (λ (t : Bool). cond t (n / 2 + 1) n) (le-leb 2 plan l)
 pub kept : (plan n i : ℕ) → 2 ≤ plan → (i < line_count plan n) ↔ (2 * i ≤ n)
 kept plan n i l = (λ below. omega (arith, lines_half plan n l), λ half. omega (arith, lines_half plan n l))
 
--- of a modulus, which is never 0, there are no more lines than n
-pub lines_few : (plan n : ℕ) → 0 < n → line_count plan n ≤ n
-lines_few plan n h = elim (dec_lt plan 2) [
-  | yes l ↦ omega (arith, lines_whole plan n l)
-  | no l ↦ omega (arith, lines_half plan n (omega arith))
-]
-
 -- ---- twins
 -- the tent does not tell r from n - r
 tent-turn : (n r s : ℕ) → r + s ≡ n → tent n r ≡ tent n s

@@ -1,19 +1,14 @@
 -- Lists made from the numbers below n: their length, what stands at a place, and that a list is
 -- given by its elements.
 use mathlib.Core.Path.{◌≡◌, refl, sym, ◌∙◌, ap}
-use mathlib.Core.List.{List, [], ◌∷◌, map}
+use mathlib.Core.List.{List, map}
 use Prim.Native.Nat.{ℕ, zero, suc, ◌+◌, ◌<◌}
 use native.Mathlib.Nat.{zero-add}
 use native.Mathlib.Omega.{arith}
 use lib.ListN.{length, get_or, length-map}
 use lib.Seq.{ext_get_or}
+use Rattle.std.proofs.lemmas.List.{get_or-map}
 use Rattle.rank1.specs.Tests.{up_from, up_to}
-
--- a place of a list of values
-pub get_d_map : {A B : Type 0} (f : A → B) (xs : List A) (j : ℕ) (d : A) (e : B) → j < length xs → get_or (map f xs) j e ≡ f (get_or xs j d)
-get_d_map f [] j d e l = absurd (omega arith)
-get_d_map f (x ∷ xs) zero d e l = refl
-get_d_map f (x ∷ xs) (suc j) d e l = get_d_map f xs j d e (omega arith)
 
 -- ---- k numbers counted up from i
 -- their number
@@ -36,7 +31,7 @@ module _ {A : Type 0} (f : ℕ → A) where
   -- at place r stands f r
   pub get_or-up_to : (n r : ℕ) (d : A) → r < n → get_or (map f (up_to n)) r d ≡ f r
   get_or-up_to n r d l =
-      get_d_map f (up_to n) r 0 d (omega (arith, length-up_from 0 n)) ∙ ap f (get_or-up_from 0 n r 0 l ∙ zero-add r)
+      get_or-map f (up_to n) r 0 d (omega (arith, length-up_from 0 n)) ∙ ap f (get_or-up_from 0 n r 0 l ∙ zero-add r)
 
   -- a list of n elements with f r at each place r is this one
   pub map-up_to_is : (n : ℕ) (l : List A) (d : A) → length l ≡ n → ((r : ℕ) → r < n → get_or l r d ≡ f r) → l ≡ map f (up_to n)

@@ -3,13 +3,13 @@ use mathlib.Core.Path.{◌≡◌, refl, sym, ◌∙◌, ap}
 use mathlib.Core.Logic.{⊎_elim}
 use mathlib.Core.Bool.{Bool, true, false, cond, ◌&&◌, and-true}
 use mathlib.Core.List.{List, [], ◌∷◌, map}
-use Prim.Native.Nat.{ℕ, zero, suc, ◌+◌, ◌*◌, ◌-◌, ◌/◌, ◌%◌, ◌^◌, ◌<◌, ◌≤◌, zero-le}
-use native.Mathlib.Nat.{eq-or-lt_of_le, mul-div_cancel, mul-mod_left, zero-div, div-le_self}
+use Prim.Native.Nat.{ℕ, zero, suc, ◌+◌, ◌*◌, ◌-◌, ◌/◌, ◌%◌, ◌^◌, ◌<◌, ◌≤◌}
+use native.Mathlib.Nat.{eq-or-lt_of_le, mul-div_cancel, mul-mod_left, zero-div}
 use native.Mathlib.Omega.{arith}
 use borrow.Author.Tests.{eq-eqb, ne_eqb, le-leb, leb-true}
 use lib.Dec.{eqb, ltb, leb}
 use lib.IntN.{ℤ, pos, negsuc, nat_abs, neg_ℤ, ◌+ℤ◌, ◌*ℤ◌, +ℤ_idl, *ℤ-zero}
-use lib.Signed.{mag, quot_z, rem_z}
+use lib.Signed.{mag, quot_z}
 use Rattle.rank1.specs.Tests.{up_from, up_to}
 use Rattle.rank1.specs.Sums.{in32}
 use Rattle.rank1.proofs.Whole.{middle, mul-add}
@@ -123,21 +123,6 @@ quot_mul (negsuc a) c l = quot_neg (suc a * c) a c (mul-div_cancel (suc a) l)
 -- and its remainder is 0
 pub rem_mul : (a : ℤ) (c : ℕ) → nat_abs (a *ℤ pos c) % c ≡ 0
 rem_mul a c = ap (λ (k : ℕ). k % c) (abs_mul a c) ∙ mul-mod_left (nat_abs a) c
-
--- the remainder of whole numbers has the size of that of their sizes
-pub abs_rem : (s : ℤ) (c : ℕ) → nat_abs (rem_z s (pos c)) ≡ nat_abs s % c
-abs_rem (pos a) c = refl
-abs_rem (negsuc a) c = abs_neg (suc a % c)
-
--- of -q
-mag_neg : (q a : ℕ) → q ≤ suc a → mag (neg_ℤ (pos q)) ≤ a
-mag_neg zero a l = zero-le
-mag_neg (suc q) a l = omega arith
-
--- a quotient fits where the number does
-pub mag_quot : (s : ℤ) (c : ℕ) → mag (quot_z s (pos c)) ≤ mag s
-mag_quot (pos a) c = div-le_self a c
-mag_quot (negsuc a) c = mag_neg (suc a / c) a (div-le_self (suc a) c)
 
 -- ---- the range of 32 bits
 -- from -2 ^ 31 to 2 ^ 31 - 1 are the numbers whose `mag` is below 2 ^ 31

@@ -12,7 +12,7 @@ use lib.IntN.{pos}
 use lib.ListN.{length}
 use Rattle.rank1.specs.Tests.{Decides}
 use Rattle.rank1.specs.Rule.{Rule}
-use Rattle.rank1.specs.Search.{Before, largest, Gentler, InRange, Gentlest}
+use Rattle.rank1.specs.Search.{Gentler, InRange, Gentlest}
 use Rattle.rank1.specs.Winner.{LeftWins}
 use Rattle.rank1.proofs.Order.{compared}
 use Rattle.rank1.proofs.GentleOrder.{gentler_strict}
@@ -79,17 +79,6 @@ turned : (r : Bool) {P : Type 0} → Decides r P → Decides (not r) (P → ⊥)
 turned r d = record { yes = λ e. d.no (not-true r e); no = λ e h. h (d.yes (not-false r e)) }
 
 module _ (y z : List ℕ) where
-  -- the gentler one, where a and b are the largest components
-  pub by_largest : (a b : ℕ) → a ≡ largest y → b ≡ largest z → a ≢ b → Decides (ltb a b) (Gentler y z)
-  unfolding Gentler
-  by_largest a b e f other =
-      subst (λ (m : ℕ). Decides (ltb a b) ((m < largest z) ⊎ ((m ≡ largest z) × Before y z))) e
-      (subst (λ (m : ℕ). Decides (ltb a b) ((a < m) ⊎ ((a ≡ m) × Before y z))) f (by_numbers a b other))
-
-  pub by_dictionary : largest y ≡ largest z → (r : Bool) → Decides r (Before y z) → Decides r (Gentler y z)
-  unfolding Gentler
-  by_dictionary = by_tie (largest y) (largest z)
-
   -- the winner
   pub by_length : length y ≢ length z → Decides (ltb (length y) (length z)) (LeftWins y z)
   unfolding LeftWins

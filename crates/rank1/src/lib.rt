@@ -1,9 +1,23 @@
-// Rank-1 lattices: the definitions that every contract cites (specs/), the laws of them (proofs/), and the types that the calls hand over.
+// Rank-1 lattices: the definitions that every contract cites (specs/), the laws of them (proofs/), the limits, and the types that the calls hand
+// over.
 
 #![tactic(auto)]
 
 ghost use Rattle.std.specs.Prelude.{◌≡◌};
 ghost use Rattle.rank1.specs.Named.{number, refused, plan_number, Names};
+
+// The limits of document 01: the most axes and rows of a list, the largest component, by size, and the largest modulus. The other crates take
+// them from here, under these names or in the types that they need.
+pub const MOST_AXES: usize = 6;
+
+pub const MOST_ROWS: usize = 512;
+
+pub const LARGEST_COMPONENT: u16 = 255;
+
+pub const LARGEST_MODULUS: u16 = 8192;
+
+// The most mirrors of a row: 2 to the number of axes.
+pub const MOST_MIRRORS: usize = 64;
 
 // Why a call is refused: each condition of the refusal table, by the number that callers are told.
 #[derive(Clone, Copy, PartialEq, Eq)]
@@ -26,13 +40,13 @@ pub enum Refusal {
 impl From<Refusal> for u8 {
     ghost from_gives = { λ refusal given. given ≡ number refusal };
 
-    // kept: here a refusal gets the number that callers are told, which the enum itself gives it.
+    // kept: the one place where a refusal becomes its number, for C and the text form.
     fn from(refusal: Refusal) -> u8 {
         refusal as u8
     }
 }
 
-// The number that a call answers with: that of its refusal, 0 for none. kept: C and the text form tell it as a number.
+// The number that a call answers with: that of its refusal, 0 for none. kept: C is told it as a number.
 pub fn number_of<T>(answer: &Result<T, Refusal>) -> u8
     ensures { result ≡ refused answer.now }
 {
@@ -55,7 +69,7 @@ pub enum Plan {
 impl From<Plan> for u8 {
     ghost from_gives = { λ plan given. given ≡ plan_number plan };
 
-    // kept: here a plan gets the number that callers are told, which the enum itself gives it.
+    // kept: the one place where a plan becomes its number, for C and the text form.
     fn from(plan: Plan) -> u8 {
         plan as u8
     }

@@ -1,4 +1,4 @@
-// Validation: the conditions 1 to 8 of document 01's refusal table and those of corners (document 02, c), each written once and told by `?`.
+// Validation: the conditions 1 to 8 of document 01's refusal table, those of a list with a row more and of corners (document 02, b and c), told by `?`.
 // kept: the plan is a number, and d and the rows, n and z stand apart: what is tested here is what a caller was given, any number and any length, and C passes
 // them so.
 
@@ -10,20 +10,13 @@ ghost use Rattle.rank1.specs.Index.{index_list};
 ghost use Rattle.rank1.specs.Named.{refused};
 ghost use Rattle.rank1.specs.Refusal.{outside, first_of, bad_plan, bad_map_plan, bad_axes, bad_row, bad_length, bad_component, equal_rows, bad_modulus, bad_vector, bad_places, list_conditions, pair_conditions, longer_conditions, corner_conditions};
 
-use rank1::{Plan, Refusal};
-
-// The largest number of axes, of rows, and the largest modulus.
-const AXES: usize = 6;
-
-const ROWS: usize = 512;
-
-const MODULUS: u16 = 8192;
+use rank1::{LARGEST_COMPONENT, LARGEST_MODULUS, MOST_AXES, MOST_ROWS, Plan, Refusal};
 
 // Condition 4 of one component: larger than 255 in size, or negative for plans 2, 3 and 4.
 fn out_of_range(plan: u8, x: i16) -> bool
     ensures { result ≡ outside plan x }
 {
-    255 < x.unsigned_abs() || (u8::from(Plan::A) <= plan && x < 0)
+    LARGEST_COMPONENT < x.unsigned_abs() || (u8::from(Plan::A) <= plan && x < 0)
 }
 
 // Whether a row is one of the rows, as long as it, of a run. (One of no components is none.)
@@ -33,18 +26,19 @@ pub fn stands(row: &[i16], rows: &[i16]) -> bool
     !row.is_empty() && rows.chunks_exact(row.len()).any(|other| row == other)
 }
 
-// Condition 1: plan above 4.
+// Condition 1: plan above 4, so that it names none.
 pub fn check_plan(plan: u8) -> Result<(), Refusal>
     ensures { refused result ≡ bad_plan plan }
 {
-    if 4 < plan { Err(Refusal::Plan) } else { Ok(()) }
+    Plan::try_from(plan).map(|_| ())
 }
 
 // Condition 1 of map, spread and gather: plan above 4, or plan 0.
 pub fn check_map_plan(plan: u8) -> Result<(), Refusal>
     ensures { refused result ≡ bad_map_plan plan }
 {
-    if 4 < plan || plan == 0 {
+    check_plan(plan)?;
+    if plan == 0 {
         return Err(Refusal::Plan);
     }
     Ok(())
@@ -54,18 +48,19 @@ pub fn check_map_plan(plan: u8) -> Result<(), Refusal>
 pub fn check_axes(d: usize) -> Result<(), Refusal>
     ensures { refused result ≡ bad_axes d }
 {
-    if d < 1 || AXES < d {
+    if d < 1 || MOST_AXES < d {
         return Err(Refusal::Axes);
     }
     Ok(())
 }
 
 // Condition 3 of as many numbers: no multiple of d, or more than 512 rows.
+// kept: that d is not 0 is asked by three functions right behind check_axes; a type for it would be made for these calls.
 fn check_length(d: usize, size: usize) -> Result<(), Refusal>
     requires { 1 ≤ d }
     ensures { (xs : List ℤ) → length xs ≡ size → refused result ≡ bad_length d xs }
 {
-    if size % d != 0 || ROWS < size / d {
+    if size % d != 0 || MOST_ROWS < size / d {
         return Err(Refusal::Length);
     }
     Ok(())
@@ -151,7 +146,7 @@ pub fn check_corners(d: usize, corners: &[i16]) -> Result<(), Refusal>
 pub fn check_modulus(n: u16) -> Result<(), Refusal>
     ensures { refused result ≡ bad_modulus n }
 {
-    if n < 1 || MODULUS < n {
+    if n < 1 || LARGEST_MODULUS < n {
         return Err(Refusal::Modulus);
     }
     Ok(())

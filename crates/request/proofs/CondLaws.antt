@@ -1,23 +1,14 @@
--- What tests say as equations: a choice by a test, two tests joined, and a number from a low to a high one.
+-- What tests say as equations: two tests joined, and a number from a low to a high one.
 use mathlib.Core.Path.{◌≡◌, refl, sym, ◌∙◌, ap}
-use mathlib.Core.Bool.{Bool, true≢false, true, false, cond, ◌&&◌}
+use mathlib.Core.Bool.{Bool, true≢false, true, false, ◌&&◌}
 use Prim.Native.Nat.{ℕ, ◌≤◌, ◌<◌}
 use borrow.Author.Tests.{leb-true, le-leb, lt-leb}
 use lib.Dec.{leb}
+use Rattle.std.proofs.lemmas.Bool.{and_left}
 use Rattle.rank1.specs.Refusal.{within}
-
-module _ {A : Type 0} where
-  pub cond_true : (b : Bool) (x y : A) → b ≡ true → cond b x y ≡ x
-  cond_true b x y e = ap (λ (t : Bool). cond t x y) e
-
-  pub cond_false : (b : Bool) (x y : A) → b ≡ false → cond b x y ≡ y
-  cond_false b x y e = ap (λ (t : Bool). cond t x y) e
 
 pub and_true : (a b : Bool) → a ≡ true → (a && b) ≡ b
 and_true a b e = ap (λ (t : Bool). t && b) e
-
-pub and_false : (a b : Bool) → a ≡ false → (a && b) ≡ false
-and_false a b e = ap (λ (t : Bool). t && b) e
 
 -- both are true
 pub both_true : (a b : Bool) → (a && b) ≡ true → (a ≡ true) × (b ≡ true)
@@ -34,7 +25,7 @@ pub within_is : (low high x : ℕ) → low ≤ x → x ≤ high → within low h
 within_is low high x l h = and_true (leb low x) (leb x high) (le-leb low x l) ∙ le-leb x high h
 
 pub not_within-below : (low high x : ℕ) → x < low → within low high x ≡ false
-not_within-below low high x l = and_false (leb low x) (leb x high) (lt-leb low x l)
+not_within-below low high x l = and_left (leb low x) (leb x high) (lt-leb low x l)
 
 pub not_within-above : (low high x : ℕ) → low ≤ x → high < x → within low high x ≡ false
 not_within-above low high x l h = and_true (leb low x) (leb x high) (le-leb low x l) ∙ lt-leb x high h

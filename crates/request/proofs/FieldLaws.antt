@@ -17,7 +17,8 @@ use Rattle.rank1.specs.Refusal.{within}
 use Rattle.request.specs.Text.{minus, is_digit, digits, decimal_from, decimal, is_field, number_text}
 use Rattle.request.specs.Reading.{Parsed, bad, got, read_number, negated, unsigned, read_signed}
 use Rattle.request.specs.Printing.{signed_text}
-use Rattle.request.proofs.CondLaws.{within_of, both_true, cond_false}
+use Rattle.std.proofs.lemmas.Bool.{cond-false}
+use Rattle.request.proofs.CondLaws.{within_of, both_true}
 use Rattle.request.proofs.NumberLaws.{number_long, number_short, number_some, number_digits, number_read}
 use Rattle.request.proofs.reading.DigitLaws.{digits_front, all_digits}
 
@@ -110,7 +111,7 @@ plain : (s t : List ℕ) → every is_digit s ≡ true → 1 ≤ length s → re
 plain [] t h l = absurd (omega arith)
 plain (b ∷ s) t h l =
     let d = digit_in b (both_true (is_digit b) (every is_digit s) h).0 in
-    cond_false (eqb b minus) (negated (read_number (s ++ t))) (unsigned (read_number (b ∷ s ++ t))) (ne_eqb b minus (λ e. omega (arith, d.0)))
+    cond-false (eqb b minus) (negated (read_number (s ++ t))) (unsigned (read_number (b ∷ s ++ t))) (ne_eqb b minus (λ e. omega (arith, d.0)))
 
 -- a number is read back from its text, where no digit stands behind it
 pub signed_read : (x : ℤ) (t : List ℕ) → nat_abs x < 1000000 → digits t ≡ [] → read_signed (signed_text x ++ t) ≡ got x t

@@ -11,6 +11,7 @@ use borrow.Author.Tests.{lt-ltb, le-ltb, le-leb, ne_eqb}
 use lib.Dec.{leb}
 use lib.ListN.{length, drop, length-append}
 use lib.Seq.{drop-append_seam}
+use Rattle.std.proofs.lemmas.Bool.{or_right}
 use Rattle.rank1.specs.Tests.{every}
 use Rattle.request.specs.Text.{is_digit, digits, decimal_from, decimal, starts_with_zero, is_field, number_text_in, number_text}
 use Rattle.request.specs.Reading.{got, read_number}
@@ -137,11 +138,6 @@ number_leading =
     by_digits (λ x. 1 ≤ x → starts_with_zero (number_text x) ≡ false)
     (λ x l h. rw (number_short x l) (ne_eqb (48 + x) 48 (λ e. omega arith)))
     (λ x l h k. rw (number_long x l) (zero_append (number_text (x / 10)) ((48 + x % 10) ∷ []) (number_some (x / 10)) ∙ h (omega arith)))
-
--- the second is true
-or_right : (a b : Bool) → b ≡ true → (a || b) ≡ true
-or_right true b h = refl
-or_right false b h = h
 
 -- the text of a number below 1000000 is a field
 pub number_field : (x : ℕ) → x < 1000000 → is_field (number_text x) ≡ true

@@ -4,7 +4,7 @@ use mathlib.Core.Path.{◌≡◌, refl, sym, ◌∙◌, ap}
 use mathlib.Core.List.{List, ◌++◌}
 use Prim.Native.Nat.{ℕ, ◌≤◌}
 use native.Mathlib.Omega.{arith}
-use lib.ListN.{length, take, drop, length-take}
+use lib.ListN.{length, take, drop}
 use lib.Seq.{take_at}
 use Rattle.std.proofs.Common.{Option, Some, None}
 use Rattle.request.specs.Answer.{AnswerTo}
@@ -15,13 +15,6 @@ use Rattle.request.proofs.AnswerLaws.{answer_determined}
 module _ {Is : List ℕ → Type 0} {before after : List ℕ} {size : ℕ} (s : Stands Is before after size) where
   pub stands_front : take size after ≡ s.answer
   stands_front = ap (take size) s.is ∙ take_at s.answer (drop size before) size (sym s.is_size)
-
-  -- the front is as long as it says, so it lies within the places
-  pub stands_length : length (take size after) ≡ size
-  stands_length = ap length stands_front ∙ sym s.is_size
-
-  pub stands_within : size ≤ length after
-  stands_within = omega (arith, stands_length, length-take size after)
 
 -- ---- one outcome
 -- one text and one lent place: the same size and the same bytes (answer_whole)

@@ -104,9 +104,9 @@ module _ {plan d m : ℕ} {xs : List ℤ} {ceiling : ℕ} {after : List ℕ} {r 
       (search_refusal_lem plan d m xs done.head done.size ceiling (length done.before) done.room) done.told
 
   -- a refusal
-  pub refused_answered : (k : Refusal) (told : ℕ) (answer : List ℕ) → r ≡ Err k → told ≡ refused r → answer ≡ refusal_text told → AnswersFor plan d xs ceiling answer
-  refused_answered k told answer e f g =
-      subst (AnswersFor plan d xs ceiling) (ap refusal_text (sym f) ∙ sym g)
+  pub refused_answered : (k : Refusal) (answer : List ℕ) → r ≡ Err k → answer ≡ refusal_text (number k) → AnswersFor plan d xs ceiling answer
+  refused_answered k answer e g =
+      subst (AnswersFor plan d xs ceiling) (ap refusal_text (ap refused e) ∙ sym g)
       (refused_answers plan d ceiling (index_list d xs) done.before after (request_refusal plan d ceiling xs) r k e searched)
 
   -- a plan was found

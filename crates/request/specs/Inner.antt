@@ -1,7 +1,7 @@
 -- What the private functions say of their answers. No public contract cites this.
-use Rattle.std.specs.Prelude.{◌≡◌, Bool, true, false, cond, List, [], ◌∷◌, map, ℕ, ◌*◌, ◌+◌, ◌≤◌, ltb, ℤ, pos, nat_abs, neg_ℤ, length, take, Option, Some, None, Result, Ok, Err}
+use Rattle.std.specs.Prelude.{◌≡◌, Bool, true, false, cond, List, [], ◌∷◌, map, ℕ, ◌*◌, ◌+◌, ◌≤◌, ltb, ℤ, pos, nat_abs, neg_ℤ, length, Option, Some, None, Result, Ok, Err}
 use Rattle.rank1.specs.declared.Refusal.{Refusal}
-use Rattle.rank1.specs.Named.{number}
+use Rattle.rank1.specs.Named.{number, plan_number}
 use Rattle.request.specs.declared.reading.Head.{Head}
 use Rattle.request.specs.declared.reading.Request.{Request}
 use Rattle.request.specs.Text.{space, newline}
@@ -47,20 +47,25 @@ pub record HeadIn (plan d m : ℕ) : Type 0 where
   pub axes : (1 ≤ d) × (d ≤ 6)
   pub rows : m ≤ 512
 
--- a request, whose rows stand, clamped, in the first m × d places
-pub record RowsRead (r : Reading) (rows : List ℤ) (asked : Request) : Type 0 where
+-- rows of d numbers each, with line 1 in range
+pub record Counted (plan d : ℕ) (rows : List ℤ) : Type 0 where
+  pub m : ℕ
+  pub head : HeadIn plan d m
+  pub size : length rows ≡ m * d
+
+-- a request with its rows, clamped
+pub record RowsRead (r : Reading) (asked : Request) : Type 0 where
   pub run : List ℤ
   pub bound : ℕ
-  pub asks : r ≡ request asked.plan asked.d bound run
-  pub head : HeadIn asked.plan asked.d asked.m
-  pub size : length run ≡ asked.m * asked.d
-  pub taken : take (asked.m * asked.d) rows ≡ map clamped run
+  pub asks : r ≡ request (plan_number asked.plan) asked.d bound run
+  pub counted : Counted (plan_number asked.plan) asked.d asked.rows.now
+  pub is_rows : asked.rows.now ≡ map clamped run
   pub is_ceiling : asked.ceiling ≡ clamped_ceiling bound
 
 -- what was asked
-abbrev pub AskedIs : Reading → List ℤ → Result Request Refusal → Type 0
-AskedIs r rows (Ok asked) = RowsRead r rows asked
-AskedIs r rows (Err refusal) = r ≡ refused (number refusal)
+abbrev pub AskedIs : Reading → Result Request Refusal → Type 0
+AskedIs r (Ok asked) = RowsRead r asked
+AskedIs r (Err refusal) = r ≡ refused (number refusal)
 
 -- a number with a sign
 abbrev pub signed : Bool → ℕ → ℤ

@@ -6,14 +6,15 @@
 mod reading;
 mod writing;
 
-ghost use Rattle.std.specs.Prelude.{◌≡◌, ◌*◌, [], length};
+ghost use Rattle.std.specs.Prelude.{◌≡◌, []};
+ghost use Rattle.rank1.specs.Named.{plan_number};
 ghost use Rattle.request.specs.Reading.{request};
 ghost use Rattle.request.specs.Answer.{Answers, AnswerTo};
-ghost use Rattle.request.specs.Inner.{HeadIn};
+ghost use Rattle.request.specs.Inner.{Counted};
 ghost use Rattle.request.specs.Reply.{Stands, AnsweredWith};
 
-use rank1::number_of;
-use reading::{MOST_AXES, MOST_ROWS, ROW_PLACES, Request};
+use rank1::{MOST_AXES, MOST_ROWS, Plan};
+use reading::{ROW_PLACES, Request};
 use writing::Writer;
 
 // The most bytes that a request may have.
@@ -27,34 +28,35 @@ fn write_answer(text: &[u8], writer: &mut Writer)
     requires { writer.old ≡ [] }
     ensures { AnswerTo text.now writer.new }
 {
-    let mut rows = [0i16; ROW_PLACES];
-    match reading::read_request(text, &mut rows) {
-        Ok(asked) => answer_request(asked, &rows[..asked.m * asked.d], writer),
-        Err(refusal) => writer.refusal(u8::from(refusal)),
+    let mut places = [0i16; ROW_PLACES];
+    match reading::read_request(text, &mut places) {
+        Ok(asked) => answer_request(&asked, writer),
+        Err(refusal) => writer.refusal(refusal),
     }
 }
 
-// The answer to a request whose rows are given.
-fn answer_request(asked: Request, rows: &[i16], writer: &mut Writer)
-    requires { HeadIn asked.plan asked.d asked.m × (length rows.now ≡ asked.m * asked.d) × (writer.old ≡ []) }
-    ensures { Answers (request asked.plan asked.d asked.ceiling rows.now) writer.new }
+// The answer to a request.
+fn answer_request(asked: &Request, writer: &mut Writer)
+    requires { Counted (plan_number asked.now.plan) asked.now.d asked.now.rows.now × (writer.old ≡ []) }
+    ensures { Answers (request (plan_number asked.now.plan) asked.now.d asked.now.ceiling asked.now.rows.now) writer.new }
 {
     let Request {
         plan,
         d,
-        m,
+        rows,
         ceiling,
-    } = asked;
+    } = *asked;
     let mut z = [0u16; MOST_AXES];
-    let found = planner::search_smallest(plan, d, rows, ceiling, &mut z[..d]);
-    let Ok(n) = found else {
-        return writer.refusal(number_of(&found));
+    let found = planner::search_smallest(u8::from(plan), d, rows, ceiling, &mut z[..d]);
+    let n = match found {
+        Ok(n) => n,
+        Err(refusal) => return writer.refusal(refusal),
     };
     writer.plan(n, &z[..d]);
-    if plan != 0 {
+    if plan != Plan::Integration {
         let mut pairs = [0u16; 2 * MOST_ROWS];
-        let size = 2 * m;
-        let _ = planner::residue_map(plan, d, rows, n, &z[..d], &mut pairs[..size]);
+        let size = 2 * (rows.len() / d);
+        let _ = planner::residue_map(u8::from(plan), d, rows, n, &z[..d], &mut pairs[..size]);
         writer.map(&pairs[..size]);
     }
 }
@@ -75,10 +77,7 @@ fn answered(text: &[u8]) -> Writer
 pub fn answer_whole(text: &[u8], out: &mut [u8; ANSWER_BYTES]) -> usize
     ensures { Stands (AnswerTo text.now) out.old out.new result }
 {
-    let writer = answered(text);
-    let answer = writer.written();
-    out[..answer.len()].copy_from_slice(answer);
-    answer.len()
+    answered(text).copy_to(out)
 }
 
 // Answers a text, and returns how many bytes the answer has. Places past it hold what they held; where there is not room nothing is
@@ -87,10 +86,8 @@ pub fn answer(text: &[u8], out: &mut [u8]) -> Option<usize>
     ensures { AnsweredWith text.now out.old out.new result }
 {
     let writer = answered(text);
-    let answer = writer.written();
-    if out.len() < answer.len() {
+    if out.len() < writer.written().len() {
         return None;
     }
-    out[..answer.len()].copy_from_slice(answer);
-    Some(answer.len())
+    Some(writer.copy_to(out))
 }

@@ -1,25 +1,20 @@
 // Reading a request: fields, lines, the whole text. A reader takes what it reads from the front of the text and keeps what is left.
 
-ghost use Rattle.std.specs.Prelude.{◌≡◌, ◌*◌, ◌≤◌, ◌<◌, true, None, ℕ, List, length, take_while};
-ghost use Rattle.rank1.specs.Named.{refused};
+ghost use Rattle.std.specs.Prelude.{◌≡◌, ◌*◌, ◌≤◌, ◌<◌, true, None, ℕ, List, length, take_while, IfOk};
+ghost use Rattle.rank1.specs.Named.{plan_number, refused};
 ghost use Rattle.rank1.specs.Tests.{every};
 ghost use Rattle.request.specs.Text.{is_digit, decimal};
 ghost use Rattle.request.specs.Reading.{got, expect, read_number, read_signed, read_line, read_rows, after_rows, head_refusal, reading};
 ghost use Rattle.request.specs.Inner.{before, clamped, clamped_ceiling, mapped, signed, separator_of, Takes, HeadIs, Fills, HeadIn, AskedIs};
 
 use crate::TEXT_BYTES;
-use rank1::Refusal;
+use rank1::{LARGEST_MODULUS, MOST_AXES, MOST_ROWS, Plan, Refusal};
 use std::marker::Model;
 
-// The most rows and axes that a request may have, the largest number of a plan, the largest ceiling, and the most digits of a field.
-pub(crate) const MOST_ROWS: usize = 512;
+// The largest ceiling, in the type that a field has. kept: `as`, since the value of a constant calls no `from`.
+const MOST_CEILING: usize = LARGEST_MODULUS as usize;
 
-pub(crate) const MOST_AXES: usize = 6;
-
-const MOST_PLAN: u32 = 4;
-
-const MOST_CEILING: u32 = 8192;
-
+// The most digits of a field.
 const MOST_DIGITS: usize = 6;
 
 // The places of the rows' numbers.
@@ -28,18 +23,18 @@ pub(crate) const ROW_PLACES: usize = MOST_ROWS * MOST_AXES;
 // The fields of line 1.
 #[derive(Clone, Copy)]
 pub(crate) struct Head {
-    plan: u32,
-    d: u32,
-    m: u32,
-    ceiling: u32,
+    plan: usize,
+    d: usize,
+    m: usize,
+    ceiling: usize,
 }
 
-// A request, whose m rows of d numbers stand in the lent places. kept: the plan as its number, since the calls of `planner` take it so.
+// A request: the plan, rows of d numbers, one behind the other, and the ceiling (8193 for any above 8192).
 #[derive(Clone, Copy)]
-pub(crate) struct Request {
-    pub(crate) plan: u8,
+pub(crate) struct Request<'a> {
+    pub(crate) plan: Plan,
     pub(crate) d: usize,
-    pub(crate) m: usize,
+    pub(crate) rows: &'a [i16],
     pub(crate) ceiling: u16,
 }
 
@@ -55,36 +50,40 @@ impl<'a> Model for Reader<'a> {
     ghost view = { λ r. r.left.now };
 }
 
-// The whole text.
+// The whole text. The rows stand in the lent places.
 #[tactic(auto, unfolding(crate::specs::Reading::reading))]
-pub(crate) fn read_request(text: &[u8], rows: &mut [i16; ROW_PLACES]) -> Result<Request, Refusal>
-    ensures { AskedIs (reading text.now) rows.new result }
+pub(crate) fn read_request<'a>(
+    text: &[u8],
+    places: &'a mut [i16; ROW_PLACES],
+) -> Result<Request<'a>, Refusal>
+    ensures { AskedIs (reading text.now) result }
 {
     if TEXT_BYTES < text.len() {
         return Err(Refusal::Text);
     }
     let mut reader = Reader { left: text };
     let head = reader.head().ok_or(Refusal::Text)?;
-    head.check()?;
-    reader.body(head, rows)
+    let plan = head.check()?;
+    reader.body(plan, head, places)
 }
 
 impl Head {
-    // 1, 2, and 3 for m not 0 to 512.
-    // kept: both constants are sizes of arrays, hence usize, and small; `try_from` would have an `Err` that never comes.
-    fn check(self) -> Result<(), Refusal>
-        ensures { refused result ≡ head_refusal self.plan self.d self.m }
+    // 1, 2, and 3 for m not 0 to 512; else the plan that the number names.
+    fn check(self) -> Result<Plan, Refusal>
+        ensures number { refused result ≡ head_refusal self.plan self.d self.m }
+        ensures named { IfOk result (λ plan. plan_number plan ≡ self.plan) }
     {
-        if self.plan > MOST_PLAN {
+        let Ok(number) = u8::try_from(self.plan) else {
             return Err(Refusal::Plan);
-        }
-        if self.d < 1 || self.d > MOST_AXES as u32 {
+        };
+        let plan = Plan::try_from(number)?;
+        if self.d < 1 || self.d > MOST_AXES {
             return Err(Refusal::Axes);
         }
-        if self.m > MOST_ROWS as u32 {
+        if self.m > MOST_ROWS {
             return Err(Refusal::Length);
         }
-        Ok(())
+        Ok(plan)
     }
 }
 
@@ -103,7 +102,7 @@ impl<'a> Reader<'a> {
     }
 
     // A field without a sign.
-    fn number(&mut self) -> Option<u32>
+    fn number(&mut self) -> Option<usize>
         ensures { Takes (read_number self.old) result self.new }
     {
         let count = digit_count(self.left);
@@ -119,7 +118,7 @@ impl<'a> Reader<'a> {
     }
 
     // A field without a sign and the byte b behind it.
-    fn field(&mut self, b: u8) -> Option<u32>
+    fn field(&mut self, b: u8) -> Option<usize>
         ensures { Takes (before b (read_number self.old)) result self.new }
     {
         let value = self.number()?;
@@ -172,7 +171,7 @@ impl<'a> Reader<'a> {
         requires { (1 ≤ d) × (length places.old ≡ m * d) }
         ensures { Fills (read_rows d m self.old) result self.new places.new }
     {
-        // kept: tried with `chunks_exact_mut`, under which no invariant can name the places that are lent
+        // kept: an index: with `chunks_exact_mut` the proof does not close, since no element is known that is written through it.
         for i in 0..m {
             self.row(&mut places[i * d..i * d + d])?;
         }
@@ -180,22 +179,25 @@ impl<'a> Reader<'a> {
     }
 
     // The rows, and nothing after them.
-    // kept: line 1 is in range, the plan at most 4, d at most 6 and m at most 512; `try_from` would have an `Err` that never comes.
-    fn body(&mut self, head: Head, rows: &mut [i16; ROW_PLACES]) -> Result<Request, Refusal>
-        requires { HeadIn head.plan head.d head.m }
-        ensures { AskedIs (after_rows head.plan head.d head.ceiling (read_rows head.d head.m self.old)) rows.new result }
+    fn body<'b>(
+        &mut self,
+        plan: Plan,
+        head: Head,
+        places: &'b mut [i16; ROW_PLACES],
+    ) -> Result<Request<'b>, Refusal>
+        requires { HeadIn (plan_number plan) head.d head.m }
+        ensures { AskedIs (after_rows (plan_number plan) head.d head.ceiling (read_rows head.d head.m self.old)) result }
     {
-        let d = head.d as usize;
-        let m = head.m as usize;
-        self.rows(d, m, &mut rows[..m * d]).ok_or(Refusal::Text)?;
+        let Head { d, m, .. } = head;
+        let size = m * d;
+        self.rows(d, m, &mut places[..size]).ok_or(Refusal::Text)?;
         if !self.left.is_empty() {
             return Err(Refusal::Text);
         }
-        let plan = head.plan as u8;
         Ok(Request {
             plan,
             d,
-            m,
+            rows: &places[..size],
             ceiling: clamp_ceiling(head.ceiling),
         })
     }
@@ -209,7 +211,7 @@ fn digit_count(text: &[u8]) -> usize
 }
 
 // The number that a few digits write.
-fn value_of(digits: &[u8]) -> u32
+fn value_of(digits: &[u8]) -> usize
     requires { (length digits.now ≤ 6) × (every is_digit digits.now ≡ true) }
     ensures { result ≡ decimal digits.now }
 {
@@ -217,7 +219,7 @@ fn value_of(digits: &[u8]) -> u32
     // `str`: making it and reading it have an `Err` each that never comes.
     let mut value = 0;
     for digit in digits {
-        value = value * 10 + u32::from(*digit - b'0');
+        value = value * 10 + usize::from(*digit - b'0');
     }
     value
 }
@@ -231,7 +233,8 @@ fn separator(j: usize, d: usize) -> u8
 }
 
 // A component that is larger than any permitted one as 256.
-fn clamp(value: u32, negative: bool) -> i16
+// kept: the planner refuses 256, in its own order of conditions; an Option would have to be refused here.
+fn clamp(value: usize, negative: bool) -> i16
     ensures { result ≡ clamped (signed negative value) }
 {
     let Ok(size) = u8::try_from(value) else {
@@ -242,7 +245,8 @@ fn clamp(value: u32, negative: bool) -> i16
 }
 
 // The ceiling, where one above 8192 stands as 8193.
-fn clamp_ceiling(ceiling: u32) -> u16
+// kept: the planner refuses 8193, in its own order of conditions; an Option would have to be refused here.
+fn clamp_ceiling(ceiling: usize) -> u16
     ensures { result ≡ clamped_ceiling ceiling }
 {
     // kept: it is at most 8193; `try_from` would have an `Err` that never comes.

@@ -1,14 +1,17 @@
 // Writing an answer: numbers, a refusal, a plan, a map. Each method writes behind what stands in the writer.
 
-ghost use Rattle.std.specs.Prelude.{◌≡◌, ◌∷◌, [], ◌++◌, ◌+◌, ◌*◌, ◌≤◌, ◌<◌, ℕ, List, length, take};
+ghost use Rattle.std.specs.Prelude.{◌≡◌, ◌∷◌, [], ◌++◌, ◌+◌, ◌*◌, ◌≤◌, ◌<◌, ℕ, List, length, take, drop};
+ghost use Rattle.rank1.specs.Named.{number};
 ghost use Rattle.request.specs.declared.TheConstants.{ANSWER_BYTES};
 ghost use Rattle.request.specs.Text.{number_text};
 ghost use Rattle.request.specs.Answer.{refusal_text, vector_text, map_text};
 
 use crate::ANSWER_BYTES;
+use rank1::Refusal;
 use std::marker::Model;
 
 // An answer while it is written: it stands in the first `at` of places that have room for every answer.
+// kept: places and a count: a `Vec` asks for the heap, and with the kit's crate arrayvec the proof would rest on what that crate states too.
 #[derive(Drop)]
 pub(crate) struct Writer {
     pub(crate) places: [u8; ANSWER_BYTES],
@@ -31,13 +34,24 @@ impl Writer {
         &self.places[..self.at]
     }
 
+    // Copies what stands in it to the front of places that have room for it, and returns how many bytes that is.
+    pub(crate) fn copy_to(&self, out: &mut [u8]) -> usize
+        requires { length self.now ≤ length out.old }
+        ensures size { result ≡ length self.now }
+        ensures copied { out.new ≡ self.now ++ drop (length self.now) out.old }
+    {
+        let written = self.written();
+        out[..written.len()].copy_from_slice(written);
+        written.len()
+    }
+
     // A refusal.
-    pub(crate) fn refusal(&mut self, number: u8)
+    pub(crate) fn refusal(&mut self, refusal: Refusal)
         requires { length self.old + 14 ≤ ANSWER_BYTES }
-        ensures { self.new ≡ self.old ++ refusal_text number }
+        ensures { self.new ≡ self.old ++ refusal_text (number refusal) }
     {
         self.bytes(b"refused ");
-        self.number(u16::from(number));
+        self.number(u16::from(u8::from(refusal)));
         self.byte(b'\n');
     }
 
@@ -51,6 +65,7 @@ impl Writer {
     }
 
     // The map, a line for each pair of a residue and its c.
+    // kept: two numbers for each row in one run, as planner's call, which C has, writes them.
     pub(crate) fn map(&mut self, pairs: &[u16])
         requires { length self.old + 6 * length pairs.now ≤ ANSWER_BYTES }
         ensures { self.new ≡ self.old ++ map_text pairs.now }
@@ -76,8 +91,8 @@ impl Writer {
     }
 
     // A number, digit by digit: those before the last one first.
-    // kept: by hand, since `write!` promises its bytes on a `String` alone, which needs the heap. A digit is at most 9; `try_from` would have an
-    // `Err` that never comes.
+    // kept: by hand: `write!` promises its bytes on a `String` alone, which asks for the heap; with the kit's crate itoa the proof would rest on
+    // what that crate states too, and nothing new is trusted here. A digit is at most 9; `try_from` would have an `Err` that never comes.
     fn number(&mut self, x: u16)
         requires { length self.old + 5 ≤ ANSWER_BYTES }
         ensures text { self.new ≡ self.old ++ number_text x }
@@ -101,12 +116,13 @@ impl Writer {
         self.at = end;
     }
 
-    // One byte. kept: the count of the places that are written stands beside them, since no heap is asked for a `Vec`.
+    // One byte.
     fn byte(&mut self, b: u8)
         requires { length self.old < ANSWER_BYTES }
         ensures { self.new ≡ self.old ++ b ∷ [] }
     {
         self.places[self.at] = b;
+        // kept: this is the struct's own count of its bytes, and no loop's counter.
         self.at += 1;
     }
 }

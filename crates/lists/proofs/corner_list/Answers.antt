@@ -8,12 +8,16 @@ use borrow.Author.Rules.{rules}
 use lib.IntN.{ℤ}
 use lib.ListN.{length, drop}
 use lib.Seq.{length-take-le}
-use Rattle.std.specs.Prelude.{Err, Option, Some, None}
+use Rattle.std.specs.Prelude.{Result, Err, Option, Some, None}
+use Rattle.std.specs.Result.{IsErr}
+use Rattle.rank1.specs.declared.Refusal.{Refusal}
 use Rattle.rank1.specs.declared.Refusal.TheVariants as refusals
 use Rattle.rank1.specs.Index.{index_list, run_of}
+use Rattle.rank1.specs.Corners.{CornerList}
 use Rattle.rank1.specs.Named.{refused}
 use Rattle.rank1.specs.Refusal.{first_of, corner_conditions, corner_refusal}
 use Rattle.rank1.proofs.CornerLaws.{corner_rows, run_corners}
+use Rattle.lists.specs.Answer.{CornerCall}
 use Rattle.lists.specs.Inner.{Filled}
 use Rattle.lists.proofs.CornerCalls.{valid_corners, corner_parts, fronted_refused, fronted_given}
 use Rattle.lists.proofs.corner_list.Goals as goal
@@ -26,6 +30,13 @@ some_list s = corner_rows s.args.d (index_list s.args.d s.args.corners.now)
 abbrev number : Start → List (List ℤ) → ℕ
 number s ks = corner_refusal s.args.d s.args.corners.now (length ks) (length s.args.out.now)
 
+-- a refused call: the number is told, and the places are as they were
+refused_call :
+    (s : Start) (ks : List (List ℤ)) → CornerList (index_list s.args.d s.args.corners.now) ks
+    → (answer : Result ℕ Refusal) → IsErr answer → refused answer ≡ number s ks
+    → CornerCall s.args.d s.args.corners.now s.args.out.now s.args.out.now answer
+refused_call s ks is answer err told = record { list = ks; is = is; fronted = fronted_refused (number s ks) ks s.args.out.now answer err told }
+
 -- what `fill` says of its answer
 abbrev FilledRows : Start → List ℤ → Option ℕ → Type 0
 FilledRows s = Filled s.args.d (index_list s.args.d s.args.corners.now)
@@ -36,7 +47,7 @@ returns-in_err-check_corners c =
     let ks = some_list s in
     let parts = corner_parts c.args.d c.args.corners.now (length ks) (length c.args.out.now) in
     let told : refused c.from_residual.result ≡ number s ks = search (rules, parts) in
-    record { list = ks; is = run_corners c.args.d c.args.corners.now; fronted = fronted_refused (number s ks) ks c.args.out.now c.from_residual.result c.from_residual.ensures.0 told }
+    refused_call s ks (run_corners c.args.d c.args.corners.now) c.from_residual.result c.from_residual.ensures.0 told
 
 pub returns-then-m-lt1 : goal.returns-then-m-lt1
 returns-then-m-lt1 c =
@@ -44,7 +55,7 @@ returns-then-m-lt1 c =
     let ks = some_list s in
     let parts = corner_parts c.args.d c.args.corners.now (length ks) (length c.args.out.now) in
     let told : 13 ≡ number s ks = search (rules, parts) in
-    record { list = ks; is = run_corners c.args.d c.args.corners.now; fronted = fronted_refused (number s ks) ks c.args.out.now (Err refusals.Corners) refl told }
+    refused_call s ks (run_corners c.args.d c.args.corners.now) (Err refusals.Corners) refl told
 
 pub fill-requires : goal.fill-requires
 fill-requires c =
@@ -58,7 +69,7 @@ returns-in_err-count c =
     let parts = corner_parts c.args.d c.args.corners.now (length f.list) (length c.args.out.now) in
     let answer = c.from_residual-in_err-count in
     let told : refused answer.result ≡ number s f.list = search (rules, parts, f.written) in
-    record { list = f.list; is = f.is; fronted = fronted_refused (number s f.list) f.list c.args.out.now answer.result answer.ensures.0 told }
+    refused_call s f.list f.is answer.result answer.ensures.0 told
 
 pub returns-in_err-check_places : goal.returns-in_err-check_places
 returns-in_err-check_places c =
@@ -68,7 +79,7 @@ returns-in_err-check_places c =
     let parts = corner_parts c.args.d c.args.corners.now (length f.list) (length c.args.out.now) in
     let few : length f.list ≤ 512 = omega (arith, f.written) in
     let told : refused answer.result ≡ number s f.list = search (rules, parts, few) in
-    record { list = f.list; is = f.is; fronted = fronted_refused (number s f.list) f.list c.args.out.now answer.result answer.ensures.0 told }
+    refused_call s f.list f.is answer.result answer.ensures.0 told
 
 pub returns : goal.returns
 returns c =

@@ -1,7 +1,7 @@
 -- Writing rows one after the other: the numbers of the first i rows stand at the front. The first row of the corners' list is zero.
-use mathlib.Core.Path.{◌≡◌, refl, sym, ◌∙◌, ap, subst}
-use mathlib.Core.List.{List, [], ◌∷◌, ◌++◌, append_assoc, Memᴰ}
-use Prim.Native.Nat.{ℕ, zero, suc, ◌+◌, ◌*◌, ◌≤◌, ◌<◌}
+use mathlib.Core.Path.{◌≡◌, sym, ◌∙◌, ap, subst}
+use mathlib.Core.List.{List, [], ◌++◌, append_assoc, Memᴰ}
+use Prim.Native.Nat.{ℕ, ◌+◌, ◌*◌, ◌≤◌, ◌<◌}
 use native.Mathlib.Nat.{suc-mul}
 use native.Mathlib.Numerals.{add-one}
 use native.Mathlib.Omega.{arith}
@@ -31,12 +31,6 @@ fill_more ks rows new row rest i d l at size fits so_far e =
     long =
         length-append (take (i * d) rows) row
         ∙ (let f : length (take (i * d) rows) ≡ i * d = length-take-le (i * d) rows (omega arith) in omega (arith, suc-mul i d, ap (λ (n : ℕ). n * d) (add-one i)))
-
--- the first of n equal numbers
-pub take-replicate : (d n : ℕ) (x : ℤ) → d ≤ n → take d (replicate n x) ≡ replicate d x
-take-replicate zero n x l = refl
-take-replicate (suc d) zero x l = absurd (omega arith)
-take-replicate (suc d) (suc n) x l = ap (λ (r : List ℤ). x ∷ r) (take-replicate d n x (omega arith))
 
 -- the row of zeros is up to some corner
 pub zero_within : (d : ℕ) (xs : List ℤ) → ValidCorners d xs → T (under_some (index_list d xs) (zero_row d))

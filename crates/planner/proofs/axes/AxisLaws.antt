@@ -1,50 +1,35 @@
 -- Axes that can change places: how the test of two axes finds that the list stays itself, and how such axes are marked.
-use mathlib.Core.Path.{◌≡◌, refl, ap, ◌∙◌}
-use mathlib.Core.Logic.{◌≢◌}
-use mathlib.Core.Bool.{Bool, false, cond}
+use mathlib.Core.Path.{◌≡◌, sym, ap, ◌∙◌}
 use mathlib.Core.List.{List}
-use Prim.Native.Nat.{ℕ, zero, suc, ◌<◌}
+use Prim.Native.Nat.{ℕ, ◌<◌}
 use native.Mathlib.Decide.{ℕ_discrete}
 use native.Mathlib.Omega.{arith}
-use borrow.Author.Tests.{eq-eqb, ne_eqb}
-use lib.Dec.{eqb}
 use lib.IntN.{ℤ, pos}
-use lib.ListN.{length, get_or, replicate}
+use lib.ListN.{length, get_or, set}
+use Rattle.std.specs.List.{swap as list_swap}
+use Rattle.std.proofs.lemmas.List.{length-set, get_or-set_same, get_or-set_other}
+use Rattle.std.proofs.lemmas.Grind.{get_or-set_at}
+use Rattle.std.proofs.lemmas.List.Edits.{swap_is as list_swap_is}
 use Rattle.rank1.specs.Axes.{swap}
 use Rattle.rank1.proofs.SwapLaws.{swap_is}
-use Rattle.planner.specs.Exchange.{other_axis}
 
--- ---- a row that is another with components i and j exchanged
--- the axis that stands at i, at j, and at each other axis
-pub other_first : (i j a : ℕ) → a ≡ i → other_axis i j a ≡ j
-other_first i j a e = ap (λ (b : Bool). cond b j (cond (eqb a j) i a)) (eq-eqb a i e)
-
-pub other_second : (i j a : ℕ) → a ≢ i → a ≡ j → other_axis i j a ≡ i
-other_second i j a h e =
-    ap (λ (b : Bool). cond b j (cond (eqb a j) i a)) (ne_eqb a i h) ∙ ap (λ (b : Bool). cond b i a) (eq-eqb a j e)
-
-pub other_none : (i j a : ℕ) → a ≢ i → a ≢ j → other_axis i j a ≡ a
-other_none i j a h o =
-    ap (λ (b : Bool). cond b j (cond (eqb a j) i a)) (ne_eqb a i h) ∙ ap (λ (b : Bool). cond b i a) (ne_eqb a j o)
-
--- a row with these components is it
-pub swapped-row :
-    (i j : ℕ) (row other : List ℤ) → length row ≡ length other → i < length other → j < length other
-    → ((a : ℕ) → a < length row → get_or row a (pos 0) ≡ get_or other (other_axis i j a) (pos 0)) → row ≡ swap i j other
-swapped-row i j row other e l h same =
-    swap_is i j other row (pos 0) l h e (at i (omega arith) j (other_first i j i refl)) (second (ℕ_discrete j i))
-    (λ a k p q. at a (omega arith) a (other_none i j a p q))
+-- the library's exchange of two components is the definition's
+pub exchanged : (i j : ℕ) (k : List ℤ) → i < length k → j < length k → list_swap k i j ≡ swap i j k
+exchanged i j k p q =
+    sym (list_swap_is k i j (pos 0) p q)
+    ∙ swap_is i j k both (pos 0) p q (length-set first j (get_or k i (pos 0)) ∙ length-set k i (get_or k j (pos 0))) (left (ℕ_discrete i j))
+    (get_or-set_same first j (get_or k i (pos 0)) (pos 0) inside)
+    (λ a l e h. get_or-set_other first j a (get_or k i (pos 0)) (pos 0) h ∙ get_or-set_other k i a (get_or k j (pos 0)) (pos 0) e)
   where
-    at : (a : ℕ) → a < length row → (b : ℕ) → other_axis i j a ≡ b → get_or row a (pos 0) ≡ get_or other b (pos 0)
-    at a k b p = same a k ∙ ap (λ (c : ℕ). get_or other c (pos 0)) p
+    first : List ℤ
+    first = set k i (get_or k j (pos 0))
 
-    second : Dec (j ≡ i) → get_or row j (pos 0) ≡ get_or other i (pos 0)
-    second (yes p) = at j (omega arith) i (other_first i j j p ∙ p)
-    second (no p) = at j (omega arith) i (other_second i j j p refl)
+    both : List ℤ
+    both = set first j (get_or k i (pos 0))
 
--- ---- the marks
--- an array of unset marks
-pub unmarked : (n i : ℕ) → get_or (replicate n false) i false ≡ false
-unmarked zero i = refl
-unmarked (suc n) zero = refl
-unmarked (suc n) (suc i) = unmarked n i
+    inside : j < length first
+    inside = omega (arith, length-set k i (get_or k j (pos 0)))
+
+    left : Dec (i ≡ j) → get_or both i (pos 0) ≡ get_or k j (pos 0)
+    left (yes e) = get_or-set_at first j i (get_or k i (pos 0)) (pos 0) e inside ∙ ap (λ (a : ℕ). get_or k a (pos 0)) e
+    left (no h) = get_or-set_other first j i (get_or k i (pos 0)) (pos 0) h ∙ get_or-set_same k i (get_or k j (pos 0)) (pos 0) p

@@ -1,7 +1,7 @@
 -- Collecting differences: what one pair gives (`grown_same`, `grown-added`), and one turn more of a loop (`grown-more`).
 use mathlib.Core.Path.{◌≡◌, refl, sym, ◌∙◌, ap, subst}
 use mathlib.Core.Logic.{◌≢◌, inl, inr, ⊎_elim}
-use mathlib.Core.Bool.{Bool, true, false, false≢true}
+use mathlib.Core.Bool.{Bool, true, false}
 use mathlib.Core.List.Memᴰ
 use mathlib.Core.List.{List, Memᴰ}
 use Prim.Native.Nat.{ℕ, ◌+◌, ◌≤◌}
@@ -12,11 +12,11 @@ use lib.ListN.{length, get_or}
 use lib.Seq.{ext_get_or}
 use Rattle.rank1.specs.Axes.{ZeroFrom}
 use Rattle.rank1.specs.Differences.{minus, negative, Has}
-use Rattle.planner.specs.Table.{rows_found, Upright, EitherSign, Added, Pairs, OnePair, Turns, MemberPair, Made, Grown}
-use Rattle.planner.specs.declared.members.Members.{Members}
+use Rattle.planner.specs.Table.{rows_found, EndsAbove, Upright, EitherSign, Added, Pairs, OnePair, Turns, Made, Grown, GrownTo}
 use Rattle.planner.specs.declared.table.Differences.{Differences}
 use Rattle.rank1.proofs.DifferenceLaws.{minus_at}
-use Rattle.planner.proofs.table.TableLaws.{negative_at, added-stays, added-only, added-was}
+use Rattle.planner.proofs.differences.UprightLaws.{negative_at}
+use Rattle.planner.proofs.table.TableLaws.{added-axes, added-stays, added-only, added-was}
 
 -- ---- when a difference is 0
 -- the difference of a row with itself
@@ -36,24 +36,27 @@ zero_same s t e f =
 negative_zero_at : (h : List ℤ) (i : ℕ) → get_or (negative h) i (pos 0) ≡ pos 0 → get_or h i (pos 0) ≡ pos 0
 negative_zero_at h i e = sym (neg_ℤ-neg_ℤ (get_or h i (pos 0))) ∙ ap neg_ℤ (sym (negative_at h i) ∙ e)
 
--- where the component at the end of an upright difference is 0, its rows are the same
-pub upright_same : (s t h : List ℤ) (j : ℕ) → Upright s t h j → length s ≡ length t → get_or h j (pos 0) ≡ pos 0 → s ≡ t
-upright_same s t h j u e z = zero_same s t e (go u.which)
+-- where an upright difference is said to be 0, its rows are the same
+pub upright_same : (s t h : List ℤ) → Upright s t h false → length s ≡ length t → s ≡ t
+upright_same s t h u e = zero_same s t e (go u.which)
   where
-    none : ZeroFrom 0 h
-    none = u.nothing (ap nat_abs (sym u.ends.last ∙ z))
-
     go : EitherSign (minus s t) h → ZeroFrom 0 (minus s t)
-    go (inl f) = subst (ZeroFrom 0) f none
-    go (inr f) = λ i m. negative_zero_at (minus s t) i (subst (λ (l : List ℤ). get_or l i (pos 0) ≡ pos 0) f (none i m))
+    go (inl f) = subst (ZeroFrom 0) f (u.nothing refl)
+    go (inr f) = λ i m. negative_zero_at (minus s t) i (subst (λ (l : List ℤ). get_or l i (pos 0) ≡ pos 0) f (u.nothing refl i m))
 
 -- and only there
-pub upright_differ : (s t h : List ℤ) (j : ℕ) → Upright s t h j → get_or h j (pos 0) ≢ pos 0 → s ≢ t
-upright_differ s t h j u n e = go u.which
+pub upright_differ : (s t h : List ℤ) → Upright s t h true → s ≢ t
+upright_differ s t h u e = zero (go u.which)
   where
-    go : EitherSign (minus s t) h → ⊥
-    go (inl f) = n (ap (λ (l : List ℤ). get_or l j (pos 0)) f ∙ same_zero s t j e)
-    go (inr f) = n (ap (λ (l : List ℤ). get_or l j (pos 0)) f ∙ negative_at (minus s t) j ∙ ap neg_ℤ (same_zero s t j e))
+    a : EndsAbove h
+    a = u.above refl
+
+    zero : get_or h a.axis (pos 0) ≡ pos 0 → ⊥
+    zero q = omega (arith, a.above, ap nat_abs (sym a.ends.last ∙ q))
+
+    go : EitherSign (minus s t) h → get_or h a.axis (pos 0) ≡ pos 0
+    go (inl f) = ap (λ (l : List ℤ). get_or l a.axis (pos 0)) f ∙ same_zero s t a.axis e
+    go (inr f) = ap (λ (l : List ℤ). get_or l a.axis (pos 0)) f ∙ negative_at (minus s t) a.axis ∙ ap neg_ℤ (same_zero s t a.axis e)
 
 -- a table that has h, which is g or -g, has g in that sense
 pub either_has : (D : List (List ℤ)) (g h : List ℤ) → EitherSign g h → Memᴰ h D → Has D g
@@ -98,47 +101,30 @@ module _ (pairs : ℕ → Pairs) (from : ℕ) where
           has_stays D₁ D₂ (minus s t) q.stays
           (r.all (q.was e) s t (record { turn = p.turn; low = p.low; high = omega (arith, p.high); pair = p.pair }) n)
 
-  -- where the table is full, as after more turns
-  pub grown-full : (i n : ℕ) (D D' : List (List ℤ)) (w w' : Bool) → i ≤ n → w' ≡ false → Grown (Turns from i pairs) D D' w w' → Grown (Turns from n pairs) D D' w w'
-  grown-full i n D D' w w' l full g = record {
-    stays = g.stays;
-    only = λ h m. ⊎_elim inl (λ a. inr (made_more i n h l a)) (g.only h m);
-    was = g.was;
-    all = λ e. absurd (false≢true (sym full ∙ e));
-  }
-
 -- ---- adding one difference to the table
 pub grown-added :
-    (d : ℕ) (h : List ℤ) (t t' : Differences) (a b : List ℤ) (j : ℕ) → Added d h t t' → Upright a b h j → a ≢ b
-    → Grown (OnePair a b) (rows_found d t) (rows_found d t') t.whole t'.whole
-grown-added d h t t' a b j r u o = record {
-  stays = added-stays d h t t' r;
-  only = λ k m. ⊎_elim inl
-      (λ e. inr (record { s = a; t = b; pair = (refl, refl); differ = o; which = subst (EitherSign (minus a b)) (sym e) u.which }))
-      (added-only d h t t' r k m);
-  was = λ w. (added-was d h t t' r w).0;
-  all = λ w x y p _.
-      subst (λ (v : List ℤ). Has (rows_found d t') (minus v y)) (sym p.0)
-      (subst (λ (v : List ℤ). Has (rows_found d t') (minus a v)) (sym p.1)
-      (either_has (rows_found d t') (minus a b) h u.which (added-was d h t t' r w).1));
+    (h : List ℤ) (t t' : Differences) (a b : List ℤ) → Added h t t' → Upright a b h true → GrownTo (OnePair a b) t t'
+grown-added h t t' a b r u = record {
+  axes = added-axes h t t' r;
+  grown = record {
+    stays = added-stays h t t' r;
+    only = λ k m. ⊎_elim inl
+        (λ e. inr (record { s = a; t = b; pair = (refl, refl); differ = upright_differ a b h u; which = subst (EitherSign (minus a b)) (sym e) u.which }))
+        (added-only h t t' r k m);
+    was = λ w. (added-was h t t' r w).0;
+    all = λ w x y p _.
+        subst (λ (v : List ℤ). Has (rows_found t') (minus v y)) (sym p.0)
+        (subst (λ (v : List ℤ). Has (rows_found t') (minus a v)) (sym p.1)
+        (either_has (rows_found t') (minus a b) h u.which (added-was h t t' r w).1));
+  };
 }
 
--- ---- the row and the first member in other words
-pub grown-met :
-    (plan d owner from from' : ℕ) (members : Members) (row row' : List ℤ) (D D' : List (List ℤ)) (w w' : Bool)
-    → from ≡ from' → row ≡ row' → Grown (Turns from members.count (MemberPair plan d owner members row)) D D' w w'
-    → Grown (Turns from' members.count (MemberPair plan d owner members row')) D D' w w'
-grown-met plan d owner from from' members row row' D D' w w' e f g =
-    subst (λ (k : ℕ). Grown (Turns k members.count (MemberPair plan d owner members row')) D D' w w') e
-    (subst (λ (r : List ℤ). Grown (Turns from members.count (MemberPair plan d owner members r)) D D' w w') f g)
-
--- ---- pairs that are the same in other words
-pub grown-same_pairs :
-    (P Q : Pairs) (D D' : List (List ℤ)) (w w' : Bool) → ((s t : List ℤ) → P s t → Q s t) → ((s t : List ℤ) → Q s t → P s t)
-    → Grown P D D' w w' → Grown Q D D' w w'
-grown-same_pairs P Q D D' w w' f b g = record {
-  stays = g.stays;
-  only = λ h m. ⊎_elim inl (λ a. inr (record { s = a.s; t = a.t; pair = f a.s a.t a.pair; differ = a.differ; which = a.which })) (g.only h m);
-  was = g.was;
-  all = λ e s t p n. g.all e s t (b s t p) n;
+-- ---- one turn more of a loop that adds to the table
+pub grown-turn :
+    (pairs : ℕ → ℕ → Pairs) (from i : ℕ) (t t₁ t₂ : Differences) → from ≤ i → GrownTo (Turns from i (pairs t.d)) t t₁ → GrownTo (pairs t₁.d i) t₁ t₂
+    → GrownTo (Turns from (i + 1) (pairs t.d)) t t₂
+grown-turn pairs from i t t₁ t₂ l g h = record {
+  axes = h.axes ∙ g.axes;
+  grown = grown-more (pairs t.d) from i (rows_found t) (rows_found t₁) (rows_found t₂) t.whole t₁.whole t₂.whole l g.grown
+      (subst (λ (d : ℕ). Grown (pairs d i) (rows_found t₁) (rows_found t₂) t₁.whole t₂.whole) g.axes h.grown);
 }

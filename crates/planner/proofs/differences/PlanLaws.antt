@@ -6,7 +6,7 @@ use mathlib.Core.Bool.{Bool, true, false, cond}
 use mathlib.Core.List.Memᴰ
 use mathlib.Core.List.{List, [], ◌∷◌, Memᴰ}
 use Prim.Native.Nat.{ℕ, zero, suc, ◌+◌, ◌*◌, ◌<◌, ◌≤◌, zero-le}
-use native.Mathlib.Nat.{zero-mul, mul-le-mul, div-mul-le_self, div-eq_of_eq-mul_left}
+use native.Mathlib.Nat.{zero-mul, mul-le-mul, mul-le-mul_right, div-eq_of_eq-mul_left}
 use native.Mathlib.Omega.{arith}
 use lib.Dec.{leb}
 use lib.IntN.{ℤ, pos, nat_abs}
@@ -27,9 +27,9 @@ use Rattle.planner.specs.Sizes.{axes, most_members, largest_component}
 use Rattle.planner.specs.Inner.{Covered, row_at}
 use Rattle.planner.specs.Members.{Kin, MemberAt, AllMembers}
 use Rattle.planner.specs.declared.members.Members.{Members}
-use Rattle.planner.specs.Table.{Pairs, MemberPair, Turns, MetPairs, PlanPairs, EitherSign, Made, Grown, RowRun, Pairable}
-use Rattle.planner.proofs.RowLaws.{rows_alone}
-use Rattle.planner.proofs.differences.PairLaws.{grown-same_pairs}
+use Rattle.planner.specs.declared.table.Differences.{Differences}
+use Rattle.std.proofs.Common.{Option}
+use Rattle.planner.specs.Table.{Below, RowPairs, BehindPairs, PlanPairs, EitherSign, Made, GrownTo, RowRun, Pairable}
 use Rattle.planner.proofs.products.ProductLaws.{covered_take, covered_drop}
 
 -- ---- runs of rows
@@ -57,11 +57,14 @@ front_zeros zero m l = refl
 front_zeros (suc d) zero l = absurd (omega arith)
 front_zeros (suc d) (suc m) l = ap (λ (k : List ℤ). pos 0 ∷ k) (front_zeros d m (omega arith))
 
-pub run-zeros : (d : ℕ) → RowRun d 1 (zero_row d)
-run-zeros d = record {
-  few = omega arith;
-  inside = omega (arith, length-replicate d (pos 0));
-  small = λ e l.
+-- it is one row
+one_zeros : (d : ℕ) → 1 ≤ d → row_count d (zero_row d) ≡ 1
+one_zeros d some = div-eq_of_eq-mul_left some (omega (arith, length-replicate d (pos 0)))
+
+pub run-zeros : (d : ℕ) → 1 ≤ d → RowRun d (row_count d (zero_row d)) (zero_row d)
+run-zeros d some e l = record {
+  inside = omega (arith, l, one_zeros d some, length-replicate d (pos 0), mul-le-mul_right {m = e + 1} {n = 1} d (omega (arith, l, one_zeros d some)));
+  small =
       covered_take largest_component d (drop (e * d) (zero_row d))
       (covered_drop largest_component (e * d) (zero_row d) (record { narrow = omega arith; covered = λ i. zeros d i }));
 }
@@ -70,6 +73,13 @@ run-zeros d = record {
     zeros zero i = zero-le
     zeros (suc d) zero = zero-le
     zeros (suc d) (suc i) = zeros d i
+
+-- the rows of a list
+pub listed-rows : (plan d : ℕ) (rows : List ℤ) → ValidList plan d rows → RowRun d (row_count d rows) rows
+listed-rows plan d rows v i l = record {
+  inside = omega (arith, v.whole, mul-le-mul_right {m = i + 1} {n = row_count d rows} d (omega (arith, l)));
+  small = row_covered plan d i rows v;
+}
 
 -- ---- members
 module _ (plan d : ℕ) (rows : List ℤ) (members : Members) (v : ValidList plan d rows) (kin : Kin plan d (index_list d rows) members) where
@@ -99,14 +109,14 @@ module _ (plan d : ℕ) (rows : List ℤ) (members : Members) (v : ValidList pla
     covered = λ i. omega (arith, sizes_at (row_at d members.rows e) (owner_of e) (member_sizes e l) i, (owner_covered e l).covered i);
   }
 
-  pub listed-members : length members.rows ≡ most_members * axes → Pairable d members
-  listed-members long = record {
-    some_axes = v.some_axes;
-    run = record {
-      few = kin.few;
-      inside = omega (arith, mul-le-mul {n₁ = members.count} {m₁ = d} {n₂ = most_members} {m₂ = axes} kin.few v.few_axes);
-      small = member_covered;
+  pub listed-members : (level : Option ℕ) → length members.rows ≡ most_members * axes → Below level d → Pairable d level members
+  listed-members level long inner = record {
+    few = kin.few;
+    run = λ e l. record {
+      inside = omega (arith, mul-le-mul {n₁ = e + 1} {m₁ = d} {n₂ = most_members} {m₂ = axes} (omega (arith, l, kin.few)) v.few_axes);
+      small = member_covered e l;
     };
+    inner = inner;
   }
 
   member_size : (e : ℕ) → e < members.count → length (row_at d members.rows e) ≡ d
@@ -163,7 +173,7 @@ avoided_zeros d rows members v kin s t p n =
     size = ap length p.pair.pair.left ∙ member_size 0 d rows members v kin p.pair.turn p.pair.high
 
     zeros : t ≡ zero_row (length s)
-    zeros = p.pair.pair.right ∙ ap (row_at d (zero_row d)) (omega (arith, p.high)) ∙ zero_row_lem d ∙ ap zero_row (sym size)
+    zeros = p.pair.pair.right ∙ ap (row_at d (zero_row d)) (omega (arith, p.high, one_zeros d v.some_axes)) ∙ zero_row_lem d ∙ ap zero_row (sym size)
 
 -- plan 1: two members are two rows
 avoided_rows : (d : ℕ) (rows : List ℤ) (members : Members) → PairsAvoided 1 d rows members
@@ -253,7 +263,7 @@ module _ (plan d : ℕ) (rows : List ℤ) (members : Members) (all : AllMembers 
   -- a member and one behind it
   behind :
       plan ≢ 4 → (i j : ℕ) (s t : List ℤ) (a : MemberAt d i members s) (b : MemberAt d j members t)
-      → b.place < a.place → Turns 0 members.count (MetPairs plan d true members.rows members) s t
+      → b.place < a.place → BehindPairs plan d members.rows members s t
   behind n i j s t a b l = record {
     turn = b.place;
     low = zero-le;
@@ -269,7 +279,7 @@ module _ (plan d : ℕ) (rows : List ℤ) (members : Members) (all : AllMembers 
   -- so the difference of any two different members is there
   two-members :
       (D : List (List ℤ)) → plan ≢ 4
-      → ((s t : List ℤ) → Turns 0 members.count (MetPairs plan d true members.rows members) s t → s ≢ t → Has D (minus s t))
+      → ((s t : List ℤ) → BehindPairs plan d members.rows members s t → s ≢ t → Has D (minus s t))
       → (i j : ℕ) (s t : List ℤ) → MemberAt d i members s → MemberAt d j members t → s ≢ t → Has D (minus s t)
   two-members D n f i j s t a b o =
       ⊎_elim (λ l. has_turned D s t (f t s (behind n j i t s b a l) (λ e. o (sym e))))
@@ -279,7 +289,7 @@ module _ (plan d : ℕ) (rows : List ℤ) (members : Members) (all : AllMembers 
   -- and that of a member and a row; under plan 4 of one that does not own it
   member-row :
       (D : List (List ℤ))
-      → ((s t : List ℤ) → Turns 0 (row_count d rows) (MetPairs plan d false rows members) s t → s ≢ t → Has D (minus s t))
+      → ((s t : List ℤ) → RowPairs plan d rows members s t → s ≢ t → Has D (minus s t))
       → (k s t : List ℤ) → Standing k s → Memᴰ t (index_list d rows) → (plan ≡ 4 → t ≢ k) → s ≢ t → Has D (minus s t)
   member-row D f k s t a m other o = go (place_of (index_list d rows) t [] m)
     where
@@ -329,7 +339,7 @@ complete_zeros d rows members v all D f s t (m, n, e) =
     pair = record {
       turn = 0;
       low = zero-le;
-      high = omega arith;
+      high = omega (arith, one_zeros d v.some_axes);
       pair = record {
         turn = a.member.place;
         low = zero-le;
@@ -384,65 +394,17 @@ pairs_complete plan d rows members =
     (complete_against d rows members) (complete_others d rows members) plan
 
 -- ---- the pairs of a plan, as the code goes through them
-module _ (plan d : ℕ) (rows : List ℤ) (members : Members) (D D' : List (List ℤ)) (w w' : Bool) where
-  pub grown-zeros :
-      plan ≡ 0 → Grown (Turns 0 1 (MetPairs plan d false (zero_row d) members)) D D' w w'
-      → Grown (PlanPairs plan d rows members) D D' w w'
-  grown-zeros = go plan
-    where
-      go :
-          (plan : ℕ) → plan ≡ 0 → Grown (Turns 0 1 (MetPairs plan d false (zero_row d) members)) D D' w w'
-          → Grown (PlanPairs plan d rows members) D D' w w'
-      go zero e g = g
-      go (suc p) e g = absurd (omega arith)
+module _ (d : ℕ) (rows : List ℤ) (members : Members) (t t' : Differences) where
+  pub grown-zeros : (plan : ℕ) → plan ≡ 0 → GrownTo (RowPairs plan d (zero_row d) members) t t' → GrownTo (PlanPairs plan d rows members) t t'
+  grown-zeros zero e g = g
+  grown-zeros (suc p) e g = absurd (omega arith)
 
--- the first m rows of a run, where they stand alone: a run
-pub run_alone : (d m : ℕ) (xs : List ℤ) → 1 ≤ d → RowRun d m xs → RowRun d (row_count d (take (m * d) xs)) (take (m * d) xs)
-run_alone d m xs some r =
-    let alone = rows_alone d m xs some r.inside in
-    record {
-      few = omega (arith, alone.0, r.few);
-      inside = div-mul-le_self (length (take (m * d) xs)) d;
-      small = λ e l. let h : e < m = omega (arith, alone.0, l) in subst (Covered largest_component) (sym (alone.1 e h)) (r.small e h);
-    }
-
--- with the same pairs under plans 1 and 2
-module _ (plan d : ℕ) (rows : List ℤ) (members : Members) (D D' : List (List ℤ)) (w w' : Bool) (some : 1 ≤ d) (run : RowRun d members.count members.rows) where
-  abbrev front : List ℤ
-  front = take (members.count * d) members.rows
-
-  alone : (row_count d front ≡ members.count) × ((i : ℕ) → i < members.count → row_at d front i ≡ row_at d members.rows i)
-  alone = rows_alone d members.count members.rows some run.inside
-
-  abbrev met : List ℤ → ℕ → Pairs
-  met xs = MetPairs plan d true xs members
-
-  pair_as : (i : ℕ) (k k' s t : List ℤ) → k ≡ k' → Turns (i + 1) members.count (MemberPair plan d i members k) s t → Turns (i + 1) members.count (MemberPair plan d i members k') s t
-  pair_as i k k' s t e p = subst (λ (h : List ℤ). Turns (i + 1) members.count (MemberPair plan d i members h) s t) e p
-
-  forth : (s t : List ℤ) → Turns 0 (row_count d front) (met front) s t → Turns 0 members.count (met members.rows) s t
-  forth s t p = let h : p.turn < members.count = omega (arith, alone.0, p.high) in
-      record { turn = p.turn; low = zero-le; high = h; pair = pair_as p.turn (row_at d front p.turn) (row_at d members.rows p.turn) s t (alone.1 p.turn h) p.pair }
-
-  back : (s t : List ℤ) → Turns 0 members.count (met members.rows) s t → Turns 0 (row_count d front) (met front) s t
-  back s t p =
-      record { turn = p.turn; low = zero-le; high = omega (arith, alone.0, p.high); pair = pair_as p.turn (row_at d members.rows p.turn) (row_at d front p.turn) s t (sym (alone.1 p.turn p.high)) p.pair }
-
-  pub grown-alone : plan ≡ 1 ⊎ plan ≡ 2 → Grown (Turns 0 (row_count d front) (met front)) D D' w w' → Grown (PlanPairs plan d rows members) D D' w w'
-  grown-alone e g =
-      go plan e (grown-same_pairs (Turns 0 (row_count d front) (met front)) (Turns 0 members.count (met members.rows)) D D' w w' forth back g)
-    where
-      go :
-          (plan : ℕ) → plan ≡ 1 ⊎ plan ≡ 2 → Grown (Turns 0 members.count (MetPairs plan d true members.rows members)) D D' w w'
-          → Grown (PlanPairs plan d rows members) D D' w w'
-      go zero e g = ⊎_elim (λ h. absurd (omega (arith, h))) (λ h. absurd (omega (arith, h))) e
-      go (suc zero) e g = g
-      go (suc (suc zero)) e g = g
-      go (suc (suc (suc p))) e g = ⊎_elim (λ h. absurd (omega (arith, h))) (λ h. absurd (omega (arith, h))) e
-
--- the row of zeros alone is one row
-pub one_zeros : (d : ℕ) → 1 ≤ d → row_count d (zero_row d) ≡ 1
-one_zeros d some = div-eq_of_eq-mul_left some (omega (arith, length-replicate d (pos 0)))
+  pub grown-behind :
+      (plan : ℕ) → plan ≡ 1 ⊎ plan ≡ 2 → GrownTo (BehindPairs plan d members.rows members) t t' → GrownTo (PlanPairs plan d rows members) t t'
+  grown-behind zero e g = ⊎_elim (λ h. absurd (omega (arith, h))) (λ h. absurd (omega (arith, h))) e
+  grown-behind (suc zero) e g = g
+  grown-behind (suc (suc zero)) e g = g
+  grown-behind (suc (suc (suc p))) e g = ⊎_elim (λ h. absurd (omega (arith, h))) (λ h. absurd (omega (arith, h))) e
 
 -- what is made of a pair is avoided with its difference
 pub made-avoided :

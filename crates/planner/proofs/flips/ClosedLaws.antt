@@ -24,7 +24,7 @@ use Rattle.planner.specs.Table.{rows_found, SeesNoSign}
 use Rattle.planner.specs.declared.table.Differences.{Differences}
 use Rattle.planner.proofs.products.ProductLaws.{small_fits, read_back}
 use Rattle.rank1.proofs.FlipLaws.{size-neg}
-use Rattle.planner.proofs.table.TableLaws.{negative_at}
+use Rattle.planner.proofs.differences.UprightLaws.{negative_at}
 
 -- ---- the other sign
 -- of a component, as the code reads it: it fits an i16, and is read back
@@ -63,9 +63,9 @@ rows-closed d j count found f h m = go (row_out d count found h m)
     go p = subst (λ (k : List ℤ). Has (rows_of d count found) (flip j k)) (sym p.is) (f p.index p.inside)
 
 -- plan 2 sees no sign
-pub sign-all : (plan d j : ℕ) (t : Differences) → plan ≡ 2 → SeesNoSign plan d j t
-sign-all plan d j t e ks f = subst (λ (p : ℕ). Flips j (Admissible p ks)) (sym e) (plan_a_flips ks j)
+pub sign-all : (plan j : ℕ) (t : Differences) → plan ≡ 2 → SeesNoSign plan j t
+sign-all plan j t e ks f = subst (λ (p : ℕ). Flips j (Admissible p ks)) (sym e) (plan_a_flips ks j)
 
 -- a table that has all differences and stays itself: the rule of its lists does not see the sign
-pub sign-closed : (plan d j : ℕ) (t : Differences) → t.whole ≡ true → Closed j (rows_found d t) → SeesNoSign plan d j t
-sign-closed plan d j t e closed ks f = differences-flip plan ks (rows_found d t) j f.sound (f.complete e) closed
+pub sign-closed : (plan j : ℕ) (t : Differences) → t.whole ≡ true → Closed j (rows_found t) → SeesNoSign plan j t
+sign-closed plan j t e closed ks f = differences-flip plan ks (rows_found t) j f.sound (f.complete e) closed

@@ -6,7 +6,7 @@ use lib.IntN.{pos}
 use lib.ListN.{length}
 use Rattle.rank1.specs.Index.{index_list}
 use Rattle.rank1.specs.Sums.{gathered_terms}
-use Rattle.planner.proofs.CallLaws.{given, given_valid, of_arguments}
+use Rattle.planner.proofs.CallLaws.{given, of_arguments}
 use Rattle.planner.proofs.refusals.HandedLaws.{GatherHanded, gather_clear}
 use Rattle.planner.proofs.gather.Goals as goal
 use Rattle.planner.proofs.gather.Goals.{In_ok-rows}
@@ -16,19 +16,15 @@ handed c =
     let a = c.args in
     gather_clear a.plan a.d a.rows.now a.n a.z.now a.sums.now (length a.terms.now) (sym c.in_ok-rows.ensures.number)
 
-pub of-lattice-requires : goal.of-lattice-requires
-of-lattice-requires c =
-    given_valid c.in_ok-rows.ensures.given (handed (goal.at.of-lattice-requires c).In_ok-rows).spread.valid
-
 pub write_terms-requires : goal.write_terms-requires
 write_terms-requires c =
     let h = handed (goal.at.write_terms-requires c).In_ok-rows in
     let g = c.in_ok-rows.ensures.given in
-    let m = c.of-lattice.ensures.made in
-    record { ready = c.of-lattice.ensures.ready; sums_len = (rw m.0 h.spread.sum_room, rw g.axes (rw g.numbers h.spread.term_room)); rows_value = rw m.0 (rw m.1 (rw g.plans (rw g.axes (rw g.numbers h.passes)))) }
+    let m = c.of.ensures in
+    record { sums_len = (rw m.1 h.spread.sum_room, rw m.0 (rw g.axes (rw g.numbers h.spread.term_room))); rows_value = rw m.0 (rw m.1 (rw m.2 (rw g.plans (rw g.axes (rw g.numbers h.passes))))) }
 
 pub returns : goal.returns
 returns c =
-    let wrote = of_arguments (λ plan d xs n z. c.write_terms.new.terms ≡ gathered_terms plan n (map pos z) (index_list d xs) c.args.sums.now)
-    c.in_ok-rows.ensures.given c.of-lattice.ensures.made c.write_terms.ensures in
+    let wrote = of_arguments c.of.result (λ plan d xs n z. c.write_terms.new.terms ≡ gathered_terms plan n (map pos z) (index_list d xs) c.args.sums.now)
+    c.in_ok-rows.ensures.given c.of.ensures c.write_terms.ensures in
     given c.in_ok-rows.ensures.number refl wrote

@@ -4,27 +4,31 @@ use mathlib.Core.Path.{◌≡◌, refl, sym, ◌∙◌, ap, subst}
 use mathlib.Core.Logic.{⊎_elim}
 use mathlib.Core.Bool.{Bool, true, false, cond}
 use mathlib.Core.List.Memᴰ
-use mathlib.Core.List.{List, [], ◌∷◌, ◌++◌, append-nil, Memᴰ}
-use Prim.Native.Nat.{ℕ, zero, suc, ◌+◌, ◌*◌, ◌-◌, ◌<◌, ◌≤◌}
-use native.Mathlib.Nat.{suc-mul, div-eq_of_eq-mul_left, mul-le-mul_right}
+use mathlib.Core.List.{List, [], ◌∷◌, ◌++◌, Memᴰ}
+use Prim.Native.Nat.{ℕ, zero, suc, ◌+◌, ◌*◌, ◌-◌, ◌/◌, ◌%◌, ◌<◌, ◌≤◌}
+use native.Mathlib.Nat.{suc-mul, div-eq_of_eq-mul_left, mul-le-mul_right, div-lt_iff_lt-mul, mod-lt}
 use native.Mathlib.Decide.{dec_lt}
 use native.Mathlib.Omega.{arith}
 use borrow.Author.Count.{below_more}
 use borrow.Rule.Slice.PartMut.{put_mid}
 use lib.Dec.{T}
-use lib.IntN.{ℤ, pos}
+use lib.IntN.{ℤ, pos, nat_abs}
 use lib.ListN.{length, get_or, take, drop, set, length-append, length-drop}
-use lib.Seq.{length-take-le, take_all, take-append-le, drop-append-le, drop_at, get_or-drop, get_or-set_same, get_or-set_other, paste, take-paste, length-paste}
-use Rattle.std.proofs.lemmas.List.{get_or_past}
+use lib.Seq.{length-take-le, take_all, take-append-le, drop-append-le, drop_at, get_or-take, get_or-drop, get_or-set_same, get_or-set_other, paste, take-paste, length-paste}
+use Rattle.std.specs.List.{filter}
+use Rattle.std.proofs.lemmas.List.{get_or_past, take_more}
+use Rattle.rank1.proofs.Distinct.{member_at}
+use Rattle.std.proofs.lemmas.Nat.{div-add-mod'}
 use Rattle.rank1.specs.Tests.{every, same_number}
 use Rattle.rank1.specs.Index.{rows_of, row_count, index_list}
-use Rattle.rank1.specs.Valid.{Distinct, Nonnegative, ValidList}
+use Rattle.rank1.specs.Valid.{Distinct, ValidList}
 use Rattle.rank1.specs.Axes.{ZeroFrom}
 use Rattle.rank1.proofs.TestLaws.{true_holds, holds_true, both, joined, decides_number}
-use Rattle.rank1.proofs.IndexLaws.{rows-length, member_length, rows_snoc}
-use Rattle.planner.specs.Sizes.{axes, most_rows, level_room}
+use Rattle.rank1.proofs.IndexLaws.{rows-length, row_in, RowPlace, row_out, member_length, rows_snoc}
+use Rattle.planner.specs.Sizes.{axes, most_rows, level_room, largest_component}
 use Rattle.planner.specs.Inner.{Covered}
-use Rattle.planner.specs.Levels.{zero_from, ending, level_run, RunOf, RowKept, Kept, LevelsTo, Levels}
+use Rattle.planner.specs.Levels.{zero_from, ending, level_run, RunOf, Kept, LevelsTo, Levels}
+use Rattle.planner.proofs.CallLaws.{covered_valid}
 use Rattle.planner.proofs.RowLaws.{part-before}
 use Rattle.planner.proofs.products.ProductLaws.{covered_append, covered_take, covered_drop}
 
@@ -65,26 +69,6 @@ from_zero_lem j k h = holds_true (zero_from j k) (zero_all (drop j k) (λ i. get
 -- where the test of the first row is known
 ending-keep : (j : ℕ) (k : List ℤ) (ks : List (List ℤ)) → zero_from j k ≡ true → ending j (k ∷ ks) ≡ k ∷ ending j ks
 ending-keep j k ks e = ap (λ (b : Bool). cond b (k ∷ ending j ks) (ending j ks)) e
-
-ending_skip : (j : ℕ) (k : List ℤ) (ks : List (List ℤ)) → zero_from j k ≡ false → ending j (k ∷ ks) ≡ ending j ks
-ending_skip j k ks e = ap (λ (b : Bool). cond b (k ∷ ending j ks) (ending j ks)) e
-
-pub ending-append : (j : ℕ) (ks ls : List (List ℤ)) → ending j (ks ++ ls) ≡ ending j ks ++ ending j ls
-ending-append j [] ls = refl
-ending-append j (k ∷ ks) ls =
-    ap (λ (rs : List (List ℤ)). cond (zero_from j k) (k ∷ rs) rs) (ending-append j ks ls) ∙ go (zero_from j k)
-  where
-    go : (b : Bool) → cond b (k ∷ (ending j ks ++ ending j ls)) (ending j ks ++ ending j ls) ≡ cond b (k ∷ ending j ks) (ending j ks) ++ ending j ls
-    go true = refl
-    go false = refl
-
--- one row more, which ends there or does not
-pub ending-more : (j : ℕ) (ks : List (List ℤ)) (k : List ℤ) → zero_from j k ≡ true → ending j (ks ++ (k ∷ [])) ≡ ending j ks ++ (k ∷ [])
-ending-more j ks k e = ending-append j ks (k ∷ []) ∙ ap (λ (rs : List (List ℤ)). ending j ks ++ rs) (ending-keep j k [] e)
-
-pub ending_same : (j : ℕ) (ks : List (List ℤ)) (k : List ℤ) → zero_from j k ≡ false → ending j (ks ++ (k ∷ [])) ≡ ending j ks
-ending_same j ks k e =
-    ending-append j ks (k ∷ []) ∙ ap (λ (rs : List (List ℤ)). ending j ks ++ rs) (ending_skip j k [] e) ∙ append-nil (ending j ks)
 
 -- there are no more of them than rows
 pub ending-length : (j : ℕ) (ks : List (List ℤ)) → length (ending j ks) ≤ length ks
@@ -174,70 +158,90 @@ level_more {d} {ks} {xs} k l v e = level_of d (suc m) (ks ++ (k ∷ [])) (xs ++ 
         ∙ ap (λ (rs : List (List ℤ)). rs ++ (k ∷ [])) (rows_front d m xs k (omega (arith, v.whole)) ∙ v.rows)
 
 -- ---- one level, written row by row
+-- the rows that end by an axis are those that pass the test
+pub ending_filter : (j : ℕ) (ks : List (List ℤ)) → filter (zero_from j) ks ≡ ending j ks
+ending_filter j [] = refl
+ending_filter j (k ∷ ks) = ap (λ (rs : List (List ℤ)). cond (zero_from j k) (k ∷ rs) rs) (ending_filter j ks)
+
 -- the first `at` numbers of `new` are those of the first i rows of xs that are 0 from axis j on
 pub record Keeping (d j i : ℕ) (xs old new : List ℤ) (at : ℕ) : Type 0 where
-  pub level : RunOf d (ending j (rows_of d i xs)) (take at new)
-  pub fits : at ≤ i * d
+  pub level : RunOf d (take i (ending j (index_list d xs))) (take at new)
+  pub fits : at ≡ i * d
   pub same : length new ≡ length old
   pub covers : (top : ℕ) → Covered top xs → Covered top old → Covered top new
 
-module _ (d j i : ℕ) (xs old new : List ℤ) (at : ℕ) (s : Keeping d j i xs old new at) where
-  -- row i does not end there
-  keep_skip : zero_from j (take d (drop (i * d) xs)) ≡ false → Keeping d j (suc i) xs old new at
-  keep_skip e = record {
-    level =
-        subst (λ (ks : List (List ℤ)). RunOf d ks (take at new))
-        (sym (ap (ending j) (rows_snoc d i xs) ∙ ending_same j (rows_of d i xs) (take d (drop (i * d) xs)) e)) s.level;
-    fits = omega (arith, s.fits, suc-mul i d);
-    same = s.same;
-    covers = s.covers;
-  }
+-- none yet
+pub keep_none : (d j : ℕ) (xs old : List ℤ) → 1 ≤ d → Keeping d j 0 xs old old 0
+keep_none d j xs old l = record { level = level_of d 0 [] [] l (omega arith) refl; fits = omega arith; same = refl; covers = λ top a b. b }
 
-  -- row i ends there, and is copied behind the others
-  keep_row :
-      1 ≤ d → suc i * d ≤ length xs → length xs ≤ length old → zero_from j (take d (drop (i * d) xs)) ≡ true
-      → Keeping d j (suc i) xs old (paste new at (drop (i * d) xs) d) (at + d)
-  keep_row l f g e = record {
-    level =
-        subst (λ (ks : List (List ℤ)). RunOf d ks (take (at + d) (paste new at (drop (i * d) xs) d)))
-        (sym (ap (ending j) (rows_snoc d i xs) ∙ ending-more j (rows_of d i xs) (take d (drop (i * d) xs)) e))
-        (subst (RunOf d (ending j (rows_of d i xs) ++ (take d (drop (i * d) xs) ∷ []))) (sym (take-paste new at (drop (i * d) xs) d (omega arith) rest))
-        (level_more (take d (drop (i * d) xs)) l s.level (length-take-le d (drop (i * d) xs) rest)));
-    fits = omega arith;
-    same = length-paste new at (drop (i * d) xs) d (omega arith) rest ∙ s.same;
-    covers = λ top a b.
-        covered_append top (take at new ++ take d (drop (i * d) xs)) (drop (at + d) new)
-        (covered_append top (take at new) (take d (drop (i * d) xs)) (covered_take top at new (s.covers top a b))
-        (covered_take top d (drop (i * d) xs) (covered_drop top (i * d) xs a)))
-        (covered_drop top (at + d) new (s.covers top a b));
-  }
-    where
-      past : suc i * d ≡ i * d + d
-      past = suc-mul i d
+-- row k is the next of them
+module _ (d j i : ℕ) (xs k : List ℤ) (some : 1 ≤ d) (whole : length xs ≡ row_count d xs * d)
+    (inside : i < length (ending j (index_list d xs))) (is : k ≡ get_or (ending j (index_list d xs)) i k) where
+  listed : Memᴰ k (index_list d xs)
+  listed = (ending-out j (index_list d xs) k (Memᴰ.cast is (member_at (ending j (index_list d xs)) k i inside))).0
 
-      rest : d ≤ length (drop (i * d) xs)
-      rest = omega (arith, length-drop (i * d) xs, past)
+  pub kept-long : length k ≡ d
+  kept-long = member_length d (row_count d xs) xs k (omega (arith, whole)) listed
 
-  -- a turn, over row k
+  pub kept-room : i * d + d ≤ length xs
+  kept-room =
+      omega (
+        arith,
+        whole,
+        suc-mul i d,
+        mul-le-mul_right {m = suc i} {n = row_count d xs} d
+            (omega (arith, inside, ending-length j (index_list d xs), rows-length d (row_count d xs) xs)),
+      )
+
+  row-small : (top : ℕ) → Covered top xs → Covered top k
+  row-small top a =
+      let p = row_out d (row_count d xs) xs k listed in
+      subst (Covered top) (sym p.is) (covered_take top d (drop (p.index * d) xs) (covered_drop top (p.index * d) xs a))
+
+  -- a turn: it is copied behind the others
   pub keep-turn :
-      (k next : List ℤ) (r : ℕ) → k ≡ take d (drop (i * d) xs) → 1 ≤ d → suc i * d ≤ length xs → length xs ≤ length old → RowKept j at k new next r
-      → Keeping d j (suc i) xs old next r
-  keep-turn k next r e l f g h = go (zero_from j k) refl
+      (old new : List ℤ) (at : ℕ) → length xs ≤ length old → Keeping d j i xs old new at
+      → Keeping d j (i + 1) xs old (paste new at k (length k)) (at + length k)
+  keep-turn old new at f s = record {
+    level =
+        subst (λ (rs : List (List ℤ)). RunOf d rs (take (at + length k) (paste new at k (length k)))) (sym more)
+        (subst (RunOf d (take i ks ++ (k ∷ []))) (sym front) (level_more k some s.level kept-long));
+    fits = omega (arith, s.fits, kept-long);
+    same = length-paste new at k (length k) room (omega arith) ∙ s.same;
+    covers = λ top a b.
+        covered_append top (take at new ++ take (length k) k) (drop (at + length k) new)
+        (covered_append top (take at new) (take (length k) k) (covered_take top at new (s.covers top a b)) (covered_take top (length k) k (row-small top a)))
+        (covered_drop top (at + length k) new (s.covers top a b));
+  }
     where
-      long : length k ≡ d
-      long = ap length e ∙ length-take-le d (drop (i * d) xs) (omega (arith, length-drop (i * d) xs, suc-mul i d))
+      ks : List (List ℤ)
+      ks = ending j (index_list d xs)
 
-      pasted : take at new ++ k ++ drop (at + length k) new ≡ paste new at (drop (i * d) xs) d
-      pasted = ap (λ (n : ℕ). take at new ++ k ++ drop (at + n) new) long ∙ ap (λ (s : List ℤ). take at new ++ s ++ drop (at + d) new) e
+      room : at + length k ≤ length new
+      room = omega (arith, s.fits, s.same, f, kept-long, kept-room)
 
-      moved : (mid : List ℤ) (m : ℕ) → next ≡ mid → r ≡ m → Keeping d j (suc i) xs old mid m → Keeping d j (suc i) xs old next r
-      moved mid m p q t = rw (p, q) t
+      more : take (i + 1) ks ≡ take i ks ++ (k ∷ [])
+      more = take_more ks i k inside ∙ ap (λ (r : List ℤ). take i ks ++ (r ∷ [])) (sym is)
 
-      go : (b : Bool) → zero_from j k ≡ b → Keeping d j (suc i) xs old next r
-      go true t =
-          let p = h.copied t in
-          moved (paste new at (drop (i * d) xs) d) (at + d) (p.0 ∙ pasted) (p.1 ∙ ap (λ (n : ℕ). at + n) long) (keep_row l f g (ap (zero_from j) (sym e) ∙ t))
-      go false t = let p = h.passed t in moved new at p.0 p.1 (keep_skip (ap (zero_from j) (sym e) ∙ t))
+      front : take (at + length k) (paste new at k (length k)) ≡ take at new ++ k
+      front = take-paste new at k (length k) (omega (arith, room)) (omega arith) ∙ ap (λ (r : List ℤ). take at new ++ r) (take_all (length k) k (omega arith))
+
+-- at the end: they are all there
+pub kept-all :
+    (d j m : ℕ) (xs old new : List ℤ) (at : ℕ) → length xs ≡ row_count d xs * d → m ≡ length (ending j (index_list d xs)) → Keeping d j m xs old new at
+    → Kept d j xs old new at
+kept-all d j m xs old new at whole e s = record {
+  level = subst (λ (rs : List (List ℤ)). RunOf d rs (take at new)) (take_all m (ending j (index_list d xs)) (omega (arith, e))) s.level;
+  fits =
+      omega (
+        arith,
+        s.fits,
+        whole,
+        mul-le-mul_right {m = m} {n = row_count d xs} d
+            (omega (arith, e, ending-length j (index_list d xs), rows-length d (row_count d xs) xs)),
+      );
+  covers = s.covers;
+}
 
 -- ---- the levels, one after the other
 -- the places of one level
@@ -299,13 +303,53 @@ module _ (d top j : ℕ) (xs levels : List ℤ) (sizes : List ℕ) (k r : ℕ) (
           ap (λ (n : ℕ). take n (drop (i * level_room) after)) (other i m)
           ∙ part-before (i * level_room) (get_or sizes i 0) (j * level_room) levels (new ++ drop k rest) (omega (arith, s.few i m)) start
 
--- ---- what the rule asks of a level
--- the rows of a run: whole, few, different, without negative components under plans 2 to 4, 0 from axis j on, none too large
+-- ---- the part of a valid list that ends by an axis
+-- no number of a run of whole rows is larger than those of its rows
+rows_small :
+    (d : ℕ) (ys : List ℤ) → 1 ≤ d → length ys ≡ row_count d ys * d
+    → ((k : List ℤ) → Memᴰ k (index_list d ys) → (r : ℕ) → nat_abs (get_or k r (pos 0)) ≤ largest_component)
+    → (i : ℕ) → nat_abs (get_or ys i (pos 0)) ≤ largest_component
+rows_small d ys some whole small i =
+    elim (dec_lt i (length ys)) [
+      | yes l ↦ subst (λ (x : ℤ). nat_abs x ≤ largest_component) same (small (take d (drop (i / d * d) ys)) (row_in d (row_count d ys) ys (i / d) (inside l)) (i % d))
+      | no g ↦ omega (arith, ap nat_abs (get_or_past ys i (pos 0) (omega arith)))
+    ]
+  where
+    inside : i < length ys → i / d < row_count d ys
+    inside l = (div-lt_iff_lt-mul some).1 (omega (arith, whole))
+
+    same : get_or (take d (drop (i / d * d) ys)) (i % d) (pos 0) ≡ get_or ys i (pos 0)
+    same =
+        get_or-take d (drop (i / d * d) ys) (i % d) (pos 0) (mod-lt i some)
+        ∙ get_or-drop (i / d * d) ys (i % d) (pos 0)
+        ∙ ap (λ (k : ℕ). get_or ys k (pos 0)) (div-add-mod' i d)
+
+-- its rows are rows of the list, 0 from axis j on
+run_member :
+    {d : ℕ} {ys : List ℤ} (j : ℕ) (ks : List (List ℤ)) → RunOf d (ending j ks) ys → (k : List ℤ) → Memᴰ k (index_list d ys)
+    → Memᴰ k ks × (zero_from j k ≡ true)
+run_member j ks run k m = ending-out j ks k (subst (Memᴰ k) run.rows m)
+
+-- it is a valid list
+pub ending_valid : (plan d j : ℕ) (xs ys : List ℤ) → ValidList plan d xs → RunOf d (ending j (index_list d xs)) ys → ValidList plan d ys
+ending_valid plan d j xs ys v run = record {
+  some_axes = v.some_axes;
+  few_axes = v.few_axes;
+  whole = run.whole;
+  few_rows = omega (arith, level_count run, ending-length j (index_list d xs), rows-length d (row_count d xs) xs, v.few_rows);
+  small = rows_small d ys v.some_axes run.whole (λ k m. row-covered (row_out d (row_count d xs) xs k (run_member j (index_list d xs) run k m).0));
+  unsigned = λ h k m. v.unsigned h k (run_member j (index_list d xs) run k m).0;
+  different = subst Distinct (sym run.rows) (ending_distinct j (index_list d xs) v.different);
+}
+  where
+    row-covered : {k : List ℤ} → RowPlace d (row_count d xs) xs k → (r : ℕ) → nat_abs (get_or k r (pos 0)) ≤ largest_component
+    row-covered place =
+        (subst (Covered largest_component) (sym place.is)
+        (covered_take largest_component d (drop (place.index * d) xs) (covered_drop largest_component (place.index * d) xs (covered_valid plan d xs v)))).covered
+
+-- what the rule asks of a level: a valid list of rows that are 0 from axis j on, none with too large a component
 pub record LevelReady (plan d top j : ℕ) (xs : List ℤ) : Type 0 where
-  pub whole : length xs ≡ row_count d xs * d
-  pub few_rows : row_count d xs ≤ most_rows
-  pub different : Distinct (index_list d xs)
-  pub unsigned : 2 ≤ plan → (k : List ℤ) → Memᴰ k (index_list d xs) → Nonnegative k
+  pub valid : ValidList plan d xs
   pub ended : (k : List ℤ) → Memᴰ k (index_list d xs) → ZeroFrom j k
   pub covers : Covered top xs
 
@@ -324,17 +368,10 @@ module _ (plan d : ℕ) (xs : List ℤ) (v : ValidList plan d xs) where
       run : RunOf d (ending j (index_list d xs)) (level_run levels sizes j)
       run = s.level j l
 
-      -- its rows are rows of the list, 0 from axis j on
-      pub level_member : (k : List ℤ) → Memᴰ k (index_list d (level_run levels sizes j)) → Memᴰ k (index_list d xs) × (zero_from j k ≡ true)
-      level_member k m = ending-out j (index_list d xs) k (subst (Memᴰ k) run.rows m)
-
       -- what the rule asks of it
       pub level_ready : LevelReady plan d top j (level_run levels sizes j)
       level_ready = record {
-        whole = run.whole;
-        few_rows = omega (arith, level_count run, ending-length j (index_list d xs), rows-length d (row_count d xs) xs, v.few_rows);
-        different = subst Distinct (sym run.rows) (ending_distinct j (index_list d xs) v.different);
-        unsigned = λ h k m. v.unsigned h k (level_member k m).0;
-        ended = λ k m. zero_from_lem j k (level_member k m).1;
+        valid = ending_valid plan d j xs (level_run levels sizes j) v run;
+        ended = λ k m. zero_from_lem j k (run_member j (index_list d xs) run k m).1;
         covers = covered_take top (get_or sizes j 0) (drop (j * level_room) levels) (covered_drop top (j * level_room) levels s.covers);
       }

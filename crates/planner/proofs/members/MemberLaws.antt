@@ -5,13 +5,13 @@ use mathlib.Core.Path.{◌≡◌, refl, sym, ◌∙◌, ap, subst}
 use mathlib.Core.Logic.{◌⊎◌, inl, inr, ⊎_elim}
 use mathlib.Core.Bool.{Bool, true, false, cond, true≢false}
 use mathlib.Core.List.Memᴰ
-use mathlib.Core.List.{List, [], ◌∷◌, ◌++◌, map, append_assoc, Memᴰ}
+use mathlib.Core.List.{List, [], ◌∷◌, ◌++◌, map, map-append, append_assoc, Memᴰ}
 use Prim.Native.Nat.{ℕ, suc, ◌+◌, ◌-◌, ◌*◌, ◌<◌, ◌≤◌, zero-le}
 use native.Mathlib.Nat.{suc_inj, suc-mul, add_assoc, mul-le-mul_right}
 use native.Mathlib.Numerals.{add-one}
 use native.Mathlib.Decide.{ℕ_discrete, dec_le}
 use native.Mathlib.Omega.{arith}
-use borrow.Author.Tests.{le-leb, lt-leb}
+use lib.Dec.{leb}
 use lib.IntN.{ℤ, pos, negsuc, nat_abs, neg_ℤ}
 use lib.ListN.{length, get_or, take, drop, length-append, drop_of_length-le, get_or-append, get_or-eq_default}
 use lib.Seq.{ext_get_or, paste, take_all, take-suc, drop_at, get_or-take, get_or-drop, get_or-append_seam}
@@ -98,11 +98,6 @@ doubled-all k a ss all s m h =
 pub member_room : (d : ℕ) (m : Members) → d ≤ axes → length m.rows ≡ most_members * axes → m.count < most_members → m.count * d + d ≤ length m.rows
 member_room d m f e l = omega (arith, suc-mul m.count d, mul-le-mul_right {m = suc m.count} {n = most_members} d l)
 
--- a map over one element more
-map_snoc : {A B : Type 0} (f : A → B) (xs : List A) (x : A) → map f (xs ++ (x ∷ [])) ≡ map f xs ++ (f x ∷ [])
-map_snoc f [] x = refl
-map_snoc {A} {B} f (y ∷ xs) x = ap (λ (l : List B). f y ∷ l) (map_snoc f xs x)
-
 module _ (d from n axis owner : ℕ) (old mid : Members) (s : Doubled d from n axis owner old mid) (l : from + n < old.count) where
   -- the next one is as it was
   doubled_next : get_or (members_of d mid) (from + n) [] ≡ get_or (members_of d old) (from + n) []
@@ -136,7 +131,7 @@ module _ (d from n axis owner : ℕ) (old mid : Members) (s : Doubled d from n a
       copied : map (flip axis) (take n block) ++ (next ∷ []) ≡ map (flip axis) (take (n + 1) block)
       copied =
           ap (λ (k : List ℤ). map (flip axis) (take n block) ++ (flip axis k ∷ [])) (doubled_next ∙ sym (get_or-drop from (members_of d old) n []))
-          ∙ sym (map_snoc (flip axis) (take n block) (get_or block n []))
+          ∙ sym (map-append (flip axis) (take n block) (get_or block n [] ∷ []))
           ∙ ap (map (flip axis))
           (sym (take-suc block n [] (omega (arith, rows-from-length d from old.count old.rows))) ∙ ap (λ (m : ℕ). take m block) (sym (add-one n)))
 
@@ -281,7 +276,7 @@ row-full plan d owner k m r l = record {
 
 -- plans 0 and 1: the row alone
 pub row-alone :
-    (plan d owner : ℕ) (k : List ℤ) (old new : Members) → plan < 2 → Pushed d k owner old new → Mirroring d 0 old.count owner k new
+    (plan d owner : ℕ) (k : List ℤ) (old new : Members) → leb 2 plan ≡ false → Pushed d k owner old new → Mirroring d 0 old.count owner k new
     → RowMembers plan d old.count owner k new
 row-alone plan d owner k old new l p t = record {
   few_axes = t.few_axes;
@@ -293,11 +288,11 @@ row-alone plan d owner k old new l p t = record {
 }
   where
     same : members_from d old.count new ≡ mirrors_under plan k
-    same = alone d owner k old new p ∙ sym (ap (λ (b : Bool). cond b (mirrors k) (k ∷ [])) (lt-leb 2 plan l))
+    same = alone d owner k old new p ∙ sym (ap (λ (b : Bool). cond b (mirrors k) (k ∷ [])) l)
 
 -- plans 2 to 4: all its mirrors
 pub row-mirrors :
-    (plan d from owner : ℕ) (k : List ℤ) (m : Members) → 2 ≤ plan → Mirroring d d from owner k m → RowMembers plan d from owner k m
+    (plan d from owner : ℕ) (k : List ℤ) (m : Members) → leb 2 plan ≡ true → Mirroring d d from owner k m → RowMembers plan d from owner k m
 row-mirrors plan d from owner k m l t = record {
   few_axes = t.few_axes;
   few = t.few;
@@ -308,7 +303,7 @@ row-mirrors plan d from owner k m l t = record {
 }
   where
     many : mirrors_under plan k ≡ mirrors k
-    many = ap (λ (b : Bool). cond b (mirrors k) (k ∷ [])) (le-leb 2 plan l)
+    many = ap (λ (b : Bool). cond b (mirrors k) (k ∷ [])) l
 
 -- ---- the members of a list
 -- of one row more: the members before it stay

@@ -14,6 +14,7 @@ use lib.Pow.{pow_mono}
 use mir.Syntax.{w16}
 use mir.Val.{SFits, to_z, of_z}
 use mir.Facts.{to_z-of_z}
+use Rattle.std.proofs.lemmas.List.{get_or-map as get_or-map_in}
 use Rattle.rank1.specs.Residue.{residue, dot, residue_at}
 use Rattle.rank1.specs.Index.{signs, headed, mirrors, row_count, index_list}
 use Rattle.rank1.specs.Axes.{ZeroFrom}
@@ -228,11 +229,6 @@ pub take-one : (out : List ℕ) (r : ℕ) → 0 < length out → take 1 (set out
 take-one [] r l = absurd (omega arith)
 take-one (y ∷ out) r l = refl
 
-get_or-map_in : {A B : Type 0} (f : A → B) (l : List A) (i : ℕ) (a : A) (b : B) → i < length l → get_or (map f l) i b ≡ f (get_or l i a)
-get_or-map_in f [] i a b h = absurd (omega arith)
-get_or-map_in f (x ∷ l) zero a b h = refl
-get_or-map_in f (x ∷ l) (suc i) a b h = get_or-map_in f l i a b (omega arith)
-
 module _ {n : ℕ} {z : List ℕ} {k : List ℤ} {table : List ℕ} (ready : RowReady n z k table) where
   -- at z's length: the row's own residue
   pub doubling_start : (out : List ℕ) (r : ℕ) → length out ≡ most_mirrors → r ≡ residue_at n (map pos z) k → Doubling n z k (set out 0 r) 1 (length z)
@@ -310,13 +306,13 @@ module _ {n : ℕ} {z : List ℕ} {k : List ℤ} {table : List ℕ} (ready : Row
     -- the product of the component with its sign turned stands in the table
     pub turned_product : get_or table (j * places + place (neg_ℤ (get_or k j (pos 0)))) 0 ≡ residue n (neg_ℤ (get_or k j (pos 0)) *ℤ pos (get_or z j 0))
     turned_product =
-        ready.prepared.products.entry j (neg_ℤ (get_or k j (pos 0))) (omega (arith, s.inside))
-        (omega (arith, size-neg (get_or k j (pos 0)), ready.prepared.covers.covered j))
+        ready.prepared.entry j j (neg_ℤ (get_or k j (pos 0))) (omega (arith, s.inside))
+        (omega (arith, size-neg (get_or k j (pos 0))))
 
 -- ---- what the residues of a row's mirrors ask holds for each row of a list
-module _ (d : ℕ) (xs : List ℤ) (n : ℕ) (z table : List ℕ) (i : ℕ) (r : Ready d xs n z table) (l : i < row_count d xs) where
-  part-ready : RowReady n z (take d (drop (i * d) xs)) table
-  part-ready = record {
+module _ {d : ℕ} {xs : List ℤ} {n : ℕ} {z table : List ℕ} (r : Ready d xs n z table) where
+  part-ready : (i : ℕ) → i < row_count d xs → RowReady n z (take d (drop (i * d) xs)) table
+  part-ready i l = record {
     modulus = r.modulus;
     few_axes = omega (arith, long, r.few_axes);
     short = omega (arith, long, r.short);
@@ -327,9 +323,9 @@ module _ (d : ℕ) (xs : List ℤ) (n : ℕ) (z table : List ℕ) (i : ℕ) (r :
       long : length (take d (drop (i * d) xs)) ≡ d
       long = part_length d (row_count d xs) xs i l (omega (arith, r.whole))
 
-  pub row-ready : (k : List ℤ) → k ≡ take d (drop (i * d) xs) → RowReady n z k table
-  row-ready k e = subst (λ (h : List ℤ). RowReady n z h table) (sym e) part-ready
+  pub row-ready : (i : ℕ) → i < row_count d xs → (k : List ℤ) → k ≡ take d (drop (i * d) xs) → RowReady n z k table
+  row-ready i l k e = subst (λ (h : List ℤ). RowReady n z h table) (sym e) (part-ready i l)
 
--- a row of the list, as an iterator gives it
-pub listed-ready : (d : ℕ) (xs : List ℤ) (n : ℕ) (z table : List ℕ) → Ready d xs n z table → (k : List ℤ) → Memᴰ k (index_list d xs) → RowReady n z k table
-listed-ready d xs n z table r k m = let at = row_out d (row_count d xs) xs k m in row-ready d xs n z table at.index r at.inside k at.is
+  -- a row of the list, as an iterator gives it
+  pub listed-ready : (k : List ℤ) → Memᴰ k (index_list d xs) → RowReady n z k table
+  listed-ready k m = let at = row_out d (row_count d xs) xs k m in row-ready at.index at.inside k at.is

@@ -1,24 +1,27 @@
--- `point_list` meets its contract: where nothing is refused the arguments are what `write_points` asks for (`point_clear`), and what it
--- writes is the answer (`given`).
+-- `point_list` meets its contract: where nothing is refused the pair is valid and has the places of its list (`point_clear`), and what is
+-- written there is the answer (`given`).
 use mathlib.Core.Path.{refl, sym}
+use native.Mathlib.Omega.{arith}
 use lib.ListN.{length}
 use Rattle.planner.proofs.CallLaws.{given}
 use Rattle.planner.proofs.refusals.HandedLaws.{PointsHanded, point_clear}
 use Rattle.planner.proofs.point_list.Goals as goal
-use Rattle.planner.proofs.point_list.Goals.{In_ok-point_refusal}
+use Rattle.planner.proofs.point_list.Goals.{In_ok-plan}
 
-handed : (c : In_ok-point_refusal) → let a = c.args in PointsHanded a.plan a.d a.n a.z.now (length a.out.now)
+handed : (c : In_ok-plan) → let a = c.args in PointsHanded a.plan a.d a.n a.z.now (length a.out.now)
 handed c =
     let a = c.args in
-    point_clear a.plan a.d a.n a.z.now (length a.out.now) (sym c.in_ok-point_refusal.ensures)
+    point_clear a.plan a.d a.n a.z.now (length a.out.now) (sym c.in_ok-plan.ensures.number)
 
-pub plan_of-requires : goal.plan_of-requires
-plan_of-requires c = (handed (goal.at.plan_of-requires c).In_ok-point_refusal).plans
+pub invariant_of-write : goal.invariant_of-write
+invariant_of-write c =
+    let h = handed (goal.at.invariant_of-write c).In_ok-plan in
+    record { modulus = h.modulus; few_axes = omega (arith, h.few_axes, h.vector.size); below = rw h.vector.size h.vector.below }
 
-pub write_points-requires : goal.write_points-requires
-write_points-requires c =
-    let h = handed (goal.at.write_points-requires c).In_ok-point_refusal in
-    (h.few_axes, h.modulus, h.vector, rw c.plan_of.ensures h.room)
+pub write-requires : goal.write-requires
+write-requires c =
+    let h = handed (goal.at.write-requires c).In_ok-plan in
+    rw h.vector.size (rw c.in_ok-plan.ensures.named h.room)
 
 pub returns : goal.returns
-returns c = given c.in_ok-point_refusal.ensures refl (rw c.plan_of.ensures at c.write_points.ensures)
+returns c = let told = c.in_ok-plan.ensures in given told.number refl (rw told.named at c.write.ensures)

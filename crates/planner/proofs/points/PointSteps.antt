@@ -7,15 +7,16 @@ use native.Mathlib.Numerals.{add-one}
 use native.Mathlib.Omega.{arith}
 use lib.ListN.{length, get_or, take, length-map, length-append, get_or-append}
 use lib.Seq.{get_or-append-add}
+use Rattle.std.proofs.lemmas.List.{get_or-map}
 use Rattle.rank1.specs.Tests.{up_from, up_to}
 use Rattle.rank1.specs.Points.{coordinate, point_line, point_lines, line_count, point_list}
-use Rattle.rank1.proofs.UpTo.{get_d_map, length-up_from, get_or-up_from}
+use Rattle.rank1.proofs.UpTo.{length-up_from, get_or-up_from}
 
 pub line-length : (plan n : ℕ) (z : List ℕ) (i : ℕ) → length (point_line plan n z i) ≡ length z
 line-length plan n z i = length-map z (λ x. coordinate plan n ((i * x) % n))
 
 pub line_at : (plan n : ℕ) (z : List ℕ) (i j : ℕ) → j < length z → get_or (point_line plan n z i) j 0 ≡ coordinate plan n ((i * get_or z j 0) % n)
-line_at plan n z i j l = get_d_map (λ x. coordinate plan n ((i * x) % n)) z j 0 0 l
+line_at plan n z i j l = get_or-map (λ x. coordinate plan n ((i * x) % n)) z j 0 0 l
 
 -- the lines counted up from i, with one more at the end
 lines_more : (plan n : ℕ) (z : List ℕ) (i k : ℕ) → point_lines plan n z (up_from i (suc k)) ≡ point_lines plan n z (up_from i k) ++ point_line plan n z (i + k)

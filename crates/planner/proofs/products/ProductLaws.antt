@@ -11,7 +11,7 @@ use native.Mathlib.Omega.{arith}
 use borrow.Author.Count.{below_more}
 use lib.IntN.{ℤ, pos, negsuc, nat_abs, ◌*ℤ◌, +ℤ_idl}
 use lib.ListN.{length, get_or, take, drop, set, replicate, length-set, drop_of_length-le}
-use lib.Seq.{length-take-le, drop-cons, get_or-take, get_or-drop, get_or-set_same, get_or-set_other}
+use lib.Seq.{drop-cons, get_or-drop, get_or-set_same, get_or-set_other}
 use lib.Signed.{lt_z}
 use mir.Syntax.{w16}
 use mir.Val.{SFits, to_z, of_z}
@@ -19,8 +19,8 @@ use mir.Facts.{to_z-of_z}
 use Rattle.rank1.specs.Residue.{residue, dot}
 use Rattle.rank1.specs.Search.{largest}
 use Rattle.rank1.proofs.ResidueLaws.{residue-mod, residue-lt, residue_is}
-use Rattle.rank1.proofs.DotLaws.{dot-turn}
-use Rattle.planner.specs.Sizes.{largest_size, middle, places, product_room}
+use Rattle.rank1.proofs.DotLaws.{dot-empty, dot-turn}
+use Rattle.planner.specs.Sizes.{largest_size, middle, places}
 use Rattle.planner.specs.Inner.{place, Products, KeptBelow, AxisSet, Covered, Prepared}
 
 -- ---- a component, its sign and its place
@@ -63,14 +63,6 @@ pub record Setting (n v axis x : ℕ) (old new : List ℕ) : Type 0 where
   pub size : length new ≡ length old
   pub entry : (y : ℤ) → nat_abs y < x → get_or new (axis * places + place y) 0 ≡ residue n (y *ℤ pos v)
   pub kept : KeptBelow 0 (axis * places) old new
-
--- at the start: no size is below 0
-pub set_none : (n v axis : ℕ) (old : List ℕ) → Setting n v axis 0 old old
-set_none n v axis old = record {
-  size = refl;
-  entry = λ y h. absurd (omega arith);
-  kept = λ i h. refl;
-}
 
 -- at the end: all sizes up to top are set
 pub set_all : (n v axis x top : ℕ) (old new : List ℕ) → top < x → Setting n v axis x old new → AxisSet n v axis top old new
@@ -163,30 +155,6 @@ next_multiple n v x p e =
     grown : x * v + v ≡ (x + 1) * v
     grown = omega (arith, suc-mul x v, ap (λ (k : ℕ). k * v) (add-one x))
 
--- ---- the axes one by one
--- no axis is set yet
-pub products_none : (n top : ℕ) (z table : List ℕ) → length table ≡ product_room → Products n (take 0 z) top table
-products_none n top z table e = record { size = e; entry = λ j x h l. absurd (omega arith) }
-
--- the products of the axes before j, and those of axis j set anew, are the products of the axes up to j
-pub set_products : (n top j : ℕ) (z old new : List ℕ) → top ≤ largest_size → j < length z → Products n (take j z) top old → AxisSet n (get_or z j 0) j top old new → Products n (take (suc j) z) top new
-set_products n top j z old new narrow h p s = record {
-  size = s.size ∙ p.size;
-  entry = λ i x l b. below_more (λ k. Right x k) j (λ k m. before x b k m) (at x b) i (omega (arith, length-take-le (suc j) z h));
-}
-  where
-    Right : ℤ → ℕ → Type 0
-    Right x i = get_or new (i * places + place x) 0 ≡ residue n (x *ℤ pos (get_or (take (suc j) z) i 0))
-
-    before : (x : ℤ) → nat_abs x ≤ top → (i : ℕ) → i < j → Right x i
-    before x b i l =
-        s.kept (i * places + place x) (omega (arith, place-lt x (omega arith)))
-        ∙ p.entry i x (omega (arith, length-take-le j z (omega arith))) b
-        ∙ ap (λ (k : ℕ). residue n (x *ℤ pos k)) (get_or-take j z i 0 l ∙ sym (get_or-take (suc j) z i 0 (omega arith)))
-
-    at : (x : ℤ) → nat_abs x ≤ top → Right x j
-    at x b = s.entry x b ∙ ap (λ (k : ℕ). residue n (x *ℤ pos k)) (sym (get_or-take (suc j) z j 0 (omega arith)))
-
 -- ---- lists of components
 -- covered by a larger top too
 pub covered_wider : (top more : ℕ) (xs : List ℤ) → top ≤ more → more ≤ largest_size → Covered top xs → Covered more xs
@@ -205,15 +173,16 @@ covered_largest xs c = record { narrow = below xs c.covered; covered = above xs 
     above (x ∷ xs) zero = omega arith
     above (x ∷ xs) (suc i) = omega (arith, above xs i)
 
+-- what stands at a place of its start is no larger than at that of the list
+small_part : (top d : ℕ) (xs : List ℤ) (i : ℕ) → nat_abs (get_or xs i (pos 0)) ≤ top → nat_abs (get_or (take d xs) i (pos 0)) ≤ top
+small_part top zero xs i h = zero-le
+small_part top (suc d) [] i h = zero-le
+small_part top (suc d) (x ∷ xs) zero h = h
+small_part top (suc d) (x ∷ xs) (suc i) h = small_part top d xs i h
+
 -- the start of a list is covered with it
 pub covered_take : (top d : ℕ) (xs : List ℤ) → Covered top xs → Covered top (take d xs)
-covered_take top d xs c = record { narrow = c.narrow; covered = λ i. part d xs i (c.covered i) }
-  where
-    part : (d : ℕ) (xs : List ℤ) (i : ℕ) → nat_abs (get_or xs i (pos 0)) ≤ top → nat_abs (get_or (take d xs) i (pos 0)) ≤ top
-    part zero xs i h = zero-le
-    part (suc d) [] i h = zero-le
-    part (suc d) (x ∷ xs) zero h = h
-    part (suc d) (x ∷ xs) (suc i) h = part d xs i h
+covered_take top d xs c = record { narrow = c.narrow; covered = λ i. small_part top d xs i (c.covered i) }
 
 -- so is what follows a start
 pub covered_drop : (top a : ℕ) (xs : List ℤ) → Covered top xs → Covered top (drop a xs)
@@ -240,20 +209,28 @@ covered_zeros top n l = record { narrow = l; covered = at n }
 -- the table of all rows serves each row
 pub prepared_row : (n d a : ℕ) (z : List ℕ) (xs : List ℤ) (table : List ℕ) → Prepared n z xs table → Prepared n z (take d (drop a xs)) table
 prepared_row n d a z xs table p = record {
-  top = p.top;
-  covers = covered_take p.top d (drop a xs) (covered_drop p.top a xs p.covers);
-  products = p.products;
+  covers = covered_take largest_size d (drop a xs) (covered_drop largest_size a xs p.covers);
+  entry = λ j i x h b.
+      let top = nat_abs (get_or xs (a + i) (pos 0)) in
+      p.entry j (a + i) x h (omega (arith, b, small_part top d (drop a xs) i (omega (arith, ap nat_abs (get_or-drop a xs i (pos 0))))));
+}
+
+-- the table of all numbers up to a top serves a list that has no larger component
+pub prepared_up_to : (n top : ℕ) (z : List ℕ) (xs : List ℤ) (table : List ℕ) → Covered top xs → Products n z top table → Prepared n z xs table
+prepared_up_to n top z xs table c p = record {
+  covers = covered_wider top largest_size xs c.narrow (omega arith) c;
+  entry = λ j i x h b. p.entry j x h (omega (arith, b, c.covered i));
 }
 
 -- ---- the entry of a component on an axis
 module _ (n : ℕ) (z : List ℕ) (xs : List ℤ) (table : List ℕ) (p : Prepared n z xs table) where
   -- a component is no larger than a difference's can be
   pub component_small : (i : ℕ) → nat_abs (get_or xs i (pos 0)) ≤ largest_size
-  component_small i = omega (arith, p.covers.covered i, p.covers.narrow)
+  component_small = p.covers.covered
 
   -- its entry on an axis is the residue of its product
   pub entry_is : (i j : ℕ) → j < length z → get_or table (j * places + place (get_or xs i (pos 0))) 0 ≡ residue n (get_or xs i (pos 0) *ℤ pos (get_or z j 0))
-  entry_is i j h = p.products.entry j (get_or xs i (pos 0)) h (p.covers.covered i)
+  entry_is i j h = p.entry j i (get_or xs i (pos 0)) h (omega arith)
 
   -- so the entry is below n
   pub entry_lt : (i j : ℕ) → 0 < n → j < length z → get_or table (j * places + place (get_or xs i (pos 0))) 0 < n
@@ -267,15 +244,10 @@ row-turn row z n s t j h a b e =
     (dot-turn n s t (get_or row j (pos 0)) (pos (get_or z j 0)) (drop (suc j) row) (map pos (drop (suc j) z)) h
     (ap (λ (k : ℕ). k % n) e ∙ residue-mod n (get_or row j (pos 0) *ℤ pos (get_or z j 0)) h))
 
--- no components of z, no sum
-dot_none : (row : List ℤ) → dot row [] ≡ pos 0
-dot_none [] = refl
-dot_none (x ∷ row) = refl
-
 -- past z's length nothing is left, whatever the row has there
 pub row_finished : (row : List ℤ) (z : List ℕ) (n s j : ℕ) → length z ≤ j → s % n ≡ (s + residue n (dot (drop j row) (map pos (drop j z)))) % n
 row_finished row z n s j h =
     sym (ap (λ (l : List ℕ). (s + residue n (dot (drop j row) (map pos l))) % n) (drop_of_length-le z h)
-    ∙ ap (λ (k : ℤ). (s + residue n k) % n) (dot_none (drop j row))
+    ∙ ap (λ (k : ℤ). (s + residue n k) % n) (dot-empty (drop j row))
     ∙ ap (λ (k : ℕ). (s + k) % n) (zero-mod n)
     ∙ ap (λ (k : ℕ). k % n) (add-zero s))

@@ -86,7 +86,7 @@ pub record Round (s s' : Search) (z : List ℕ) (w : Work) : Type 0 where
 
 module _ (s s' : Search) (z : List ℕ) (w : Work) (round : Round s s' z w) where
   some : 1 ≤ s.task.rows.d
-  some = round.tabled.listed.list.some_axes
+  some = s.task.rows.valid.some_axes
 
   -- the largest component is below the bound of the round before
   falls : round.bound < round.last.bound

@@ -10,6 +10,8 @@ use native.Mathlib.Omega.{arith}
 use lib.IntN.{ℤ, pos}
 use lib.ListN.{length, get_or, take, drop, length-map, length-drop, get_or-map}
 use lib.Seq.{length-take-le, get_or-take, get_or-drop}
+use Rattle.std.specs.Prelude.{Option, None}
+use Rattle.std.specs.Option.{is_some}
 use Rattle.rank1.specs.Tests.{Decides}
 use Rattle.rank1.specs.Residue.{dot, residue_at}
 use Rattle.rank1.specs.Index.{mirrors, row_count, index_list}
@@ -140,7 +142,7 @@ module _ (d : ℕ) (xs : List ℤ) (i : ℕ) (l : i < row_count d xs) (k : List 
   residue-number n z r q = q ∙ ap (residue_at n (map pos z)) row_number
 
 -- ---- recording the owners
-module _ (d : ℕ) (xs : List ℤ) (n : ℕ) (z table : List ℕ) (ready : Ready d xs n z table) (owners : List ℕ) where
+module _ (d : ℕ) (xs : List ℤ) (n : ℕ) (z table : List ℕ) (ready : Ready d xs n z table) (owners : List (Option ℕ)) where
   -- every row is recorded
   pub recorded_all : (i : ℕ) → i ≡ row_count d xs → Owners (residue_of n z (index_list d xs)) n i owners → Recorded n z (index_list d xs) owners true
   recorded_all i e o = record {
@@ -149,7 +151,7 @@ module _ (d : ℕ) (xs : List ℤ) (n : ℕ) (z table : List ℕ) (ready : Ready
   }
 
   -- the residue of row i is owned
-  pub recorded_clash : (i r : ℕ) → i < row_count d xs → r ≡ residue_of n z (index_list d xs) i → r < n → get_or owners r 0 ≢ 0 → Owners (residue_of n z (index_list d xs)) n i owners → Recorded n z (index_list d xs) owners false
+  pub recorded_clash : (i r : ℕ) → i < row_count d xs → r ≡ residue_of n z (index_list d xs) i → r < n → is_some (get_or owners r None) ≡ true → Owners (residue_of n z (index_list d xs)) n i owners → Recorded n z (index_list d xs) owners false
   recorded_clash i r l e below taken o = record {
     all = λ yes. absurd {A = Owners (residue_of n z (index_list d xs)) n (length (index_list d xs)) owners} (true≢false (sym yes));
     clash = λ no rule.
@@ -159,7 +161,7 @@ module _ (d : ℕ) (xs : List ℤ) (n : ℕ) (z table : List ℕ) (ready : Ready
   }
 
 -- ---- what recording the owners says of the plans but plan 0
-module _ (d : ℕ) (xs : List ℤ) (n : ℕ) (z owners : List ℕ) where
+module _ (d : ℕ) (xs : List ℤ) (n : ℕ) (z : List ℕ) (owners : List (Option ℕ)) where
   -- all are recorded
   pub recorded_rows : (r : Bool) → r ≡ true → Recorded n z (index_list d xs) owners r → Owners (residue_of n z (index_list d xs)) n (row_count d xs) owners
   recorded_rows r e o = subst (λ (m : ℕ). Owners (residue_of n z (index_list d xs)) n m owners) (rows-length d (row_count d xs) xs) (o.all e)
@@ -209,26 +211,26 @@ module _ (out : List ℕ) where
       ∙ ap (λ (i : ℕ). get_or out i 0) (omega arith)
 
 -- what the table of the owners of all rows says of it
-module _ (plan d : ℕ) (xs : List ℤ) (n : ℕ) (z owners : List ℕ) (o : Owners (residue_of n z (index_list d xs)) n (row_count d xs) owners) (i t x : ℕ) (m : MirrorAt (index_list d xs) n z i t x) where
+module _ (plan d : ℕ) (xs : List ℤ) (n : ℕ) (z : List ℕ) (owners : List (Option ℕ)) (o : Owners (residue_of n z (index_list d xs)) n (row_count d xs) owners) (i t x : ℕ) (m : MirrorAt (index_list d xs) n z i t x) where
   -- the rows are those of the list
   whole : Owners (residue_of n z (index_list d xs)) n (length (index_list d xs)) owners
   whole = subst (λ (m : ℕ). Owners (residue_of n z (index_list d xs)) n m owners) (sym (rows-length d (row_count d xs) xs)) o
 
   -- its owner does not forbid it
-  pub mirror-passes : clash plan i (get_or owners x 0) ≡ false → Unowned (row_residue (index_list d xs) n (map pos z)) plan (length (index_list d xs)) i (residue_at n (map pos z) (mirror (index_list d xs) n (map pos z) i t))
+  pub mirror-passes : clash plan i (get_or owners x None) ≡ false → Unowned (row_residue (index_list d xs) n (map pos z)) plan (length (index_list d xs)) i (residue_at n (map pos z) (mirror (index_list d xs) n (map pos z) i t))
   mirror-passes f =
       subst (Unowned (row_residue (index_list d xs) n (map pos z)) plan (length (index_list d xs)) i) m.is
       (owner_free (row_residue (index_list d xs) n (map pos z)) n plan (length (index_list d xs)) i x owners whole f)
 
   -- its owner forbids it
-  pub mirror_fails : clash plan i (get_or owners x 0) ≡ true → 1 ≤ t → i < row_count d xs → AllFree (index_list d xs) n (map pos z) plan → ⊥
+  pub mirror_fails : clash plan i (get_or owners x None) ≡ true → 1 ≤ t → i < row_count d xs → AllFree (index_list d xs) n (map pos z) plan → ⊥
   mirror_fails f low l free =
       owner_forbids (row_residue (index_list d xs) n (map pos z)) n plan (length (index_list d xs)) i x owners whole m.below f
       (subst (Unowned (row_residue (index_list d xs) n (map pos z)) plan (length (index_list d xs)) i) (sym m.is)
       (free i (omega (arith, rows-length d (row_count d xs) xs)) t m.inside low))
 
 -- ---- the answer of plans 3 and 4, where the owners of all rows are recorded
-module _ (plan d : ℕ) (xs : List ℤ) (n : ℕ) (z table owners : List ℕ) (ready : Ready d xs n z table) (low : 3 ≤ plan) (high : plan ≤ 4)
+module _ (plan d : ℕ) (xs : List ℤ) (n : ℕ) (z table : List ℕ) (owners : List (Option ℕ)) (ready : Ready d xs n z table) (low : 3 ≤ plan) (high : plan ≤ 4)
     (unsigned : (k : List ℤ) → Memᴰ k (index_list d xs) → Nonnegative k) (o : Owners (residue_of n z (index_list d xs)) n (row_count d xs) owners) where
   -- the rule by numbers
   by_mirrors : Admissible plan (index_list d xs) n (map pos z) ↔ (AllApart (row_residue (index_list d xs) n (map pos z)) (length (index_list d xs)) × AllFree (index_list d xs) n (map pos z) plan)

@@ -2,13 +2,13 @@
 -- (Untaken): so it is at the start, with all residues of M left; one more taken residue keeps it; a residue found taken refutes the
 -- rule; and where none is left the rule holds. Behind that: what is left, row by row and mirror by mirror.
 use mathlib.Core.Path.{◌≡◌, refl, sym, ◌∙◌, ap, subst}
+use mathlib.Core.Bool.{Bool, true, false, true≢false}
 use mathlib.Core.Logic.Iff
 use mathlib.Core.Logic.{◌↔◌, ◌≢◌, ⊎_elim}
 use mathlib.Core.List.Memᴰ
 use mathlib.Core.List.{List, [], ◌∷◌, ◌++◌, map, map-append, Memᴰ}
 use Prim.Native.Nat.{ℕ, ◌+◌, ◌<◌}
 use native.Mathlib.Numerals.{add-one}
-use native.Mathlib.Omega.{arith}
 use lib.IntN.{ℤ, pos}
 use lib.ListN.{length, get_or, drop, set}
 use lib.Seq.{drop-cons, get_or-set_same, get_or-set_other}
@@ -22,48 +22,47 @@ use Rattle.rank1.proofs.MirrorLaws.{mirrored_distinct}
 use Rattle.planner.specs.Inner.{Ready, Clear}
 
 -- ---- numbers that are different and free: none of them is taken in the table
-pub record Untaken (table xs : List ℕ) : Type 0 where
+pub record Untaken (table : List Bool) (xs : List ℕ) : Type 0 where
   pub different : Distinct xs
-  pub free : (x : ℕ) → Memᴰ x xs → get_or table x 0 ≡ 0
+  pub free : (x : ℕ) → Memᴰ x xs → get_or table x false ≡ false
 
 -- where nothing is taken, different numbers are free
-free_all : (n : ℕ) (table xs : List ℕ) → Clear n table → ((x : ℕ) → Memᴰ x xs → x < n) → Distinct xs ↔ Untaken table xs
+free_all : (n : ℕ) (table : List Bool) (xs : List ℕ) → Clear n table → ((x : ℕ) → Memᴰ x xs → x < n) → Distinct xs ↔ Untaken table xs
 free_all n table xs e below = ((λ h. record { different = h; free = λ x m. e x (below x m) }), (λ h. h.different))
 
 -- once a free number is taken, those behind it are free just where it and they were before
-free_more : (table xs : List ℕ) (r : ℕ) → r < length table → get_or table r 0 ≡ 0 → Untaken table (r ∷ xs) ↔ Untaken (set table r 1) xs
+free_more : (table : List Bool) (xs : List ℕ) (r : ℕ) → r < length table → get_or table r false ≡ false → Untaken table (r ∷ xs) ↔ Untaken (set table r true) xs
 free_more table xs r l e = (after, before)
   where
-    after : Untaken table (r ∷ xs) → Untaken (set table r 1) xs
+    after : Untaken table (r ∷ xs) → Untaken (set table r true) xs
     after h = record {
       different = h.different.1;
-      free = λ x m. get_or-set_other table r x 1 0 (λ p. h.different.0 (Memᴰ.cast (sym p) m)) ∙ h.free x (Memᴰ.tail m);
+      free = λ x m. get_or-set_other table r x true false (λ p. h.different.0 (Memᴰ.cast (sym p) m)) ∙ h.free x (Memᴰ.tail m);
     }
 
-    other : Untaken (set table r 1) xs → (x : ℕ) → Memᴰ x xs → x ≢ r
+    other : Untaken (set table r true) xs → (x : ℕ) → Memᴰ x xs → x ≢ r
     other h x m p =
-        let z : ◌≡◌ {A = ℕ} 1 0 = sym (get_or-set_same table r 1 0 l) ∙ ap (λ (k : ℕ). get_or (set table r 1) k 0) (sym p) ∙ h.free x m in
-        omega arith
+        true≢false (sym (get_or-set_same table r true false l) ∙ ap (λ (k : ℕ). get_or (set table r true) k false) (sym p) ∙ h.free x m)
 
-    before : Untaken (set table r 1) xs → Untaken table (r ∷ xs)
+    before : Untaken (set table r true) xs → Untaken table (r ∷ xs)
     before h = record {
       different = ((λ m. other h r m refl), h.different);
       free = λ x m.
           ⊎_elim
-          (λ p. ap (λ (k : ℕ). get_or table k 0) p ∙ e)
-          (λ i. sym (get_or-set_other table r x 1 0 (other h x i)) ∙ h.free x i)
+          (λ p. ap (λ (k : ℕ). get_or table k false) p ∙ e)
+          (λ i. sym (get_or-set_other table r x true false (other h x i)) ∙ h.free x i)
           (Memᴰ.cases_cons m);
     }
 
 -- ---- a rule that holds just where the numbers left are different and free
-module _ {rule : Type 0} (table left : List ℕ) (same : rule ↔ Untaken table left) where
+module _ {rule : Type 0} (table : List Bool) (left : List ℕ) (same : rule ↔ Untaken table left) where
   -- the next number r is free and is taken
-  pub taken_more : (xs : List ℕ) (r : ℕ) → left ≡ r ∷ xs → r < length table → get_or table r 0 ≡ 0 → rule ↔ Untaken (set table r 1) xs
+  pub taken_more : (xs : List ℕ) (r : ℕ) → left ≡ r ∷ xs → r < length table → get_or table r false ≡ false → rule ↔ Untaken (set table r true) xs
   taken_more xs r e l f = Iff.trans (rw e at same) (free_more table xs r l f)
 
   -- the next number r is taken already: the rule does not hold
-  pub taken_clash : (xs : List ℕ) (r : ℕ) → left ≡ r ∷ xs → (get_or table r 0 ≡ 0 → ⊥) → rule → ⊥
-  taken_clash xs r e t h = t ((same.0 h).free r (rw e (Memᴰ.head refl)))
+  pub taken_clash : (xs : List ℕ) (r : ℕ) → left ≡ r ∷ xs → get_or table r false ≡ true → rule → ⊥
+  taken_clash xs r e t h = true≢false (sym t ∙ (same.0 h).free r (rw e (Memᴰ.head refl)))
 
   -- no number is left: the rule holds
   pub taken_all : left ≡ [] → rule
@@ -94,7 +93,7 @@ module _ (n : ℕ) (z : List ℕ) where
   mirrors_left out t ks = drop t out ++ rows_left ks
 
   -- at the start, with no residue taken: the rule holds just where all residues are different and free
-  pub rows_start : (d : ℕ) (xs : List ℤ) (products table : List ℕ) → Ready d xs n z products → ((k : List ℤ) → Memᴰ k (index_list d xs) → Nonnegative k) → Clear n table → PlanA (index_list d xs) n (map pos z) ↔ Untaken table (rows_left (index_list d xs))
+  pub rows_start : (d : ℕ) (xs : List ℤ) (products : List ℕ) (table : List Bool) → Ready d xs n z products → ((k : List ℤ) → Memᴰ k (index_list d xs) → Nonnegative k) → Clear n table → PlanA (index_list d xs) n (map pos z) ↔ Untaken table (rows_left (index_list d xs))
   rows_start d xs products table r p e =
       Iff.trans
       (plan_a (index_list d xs) n (map pos z) (mirrored_distinct (index_list d xs) r.different p))

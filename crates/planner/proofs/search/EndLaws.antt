@@ -2,7 +2,7 @@
 -- the rule. At the last axis they are the whole list.
 use mathlib.Core.Path.{◌≡◌, sym, ap, ◌∙◌, subst}
 use mathlib.Core.Bool.{Bool}
-use mathlib.Core.List.{List, map, Memᴰ}
+use mathlib.Core.List.{List, map}
 use Prim.Native.Nat.{ℕ, ◌≤◌}
 use native.Mathlib.Omega.{arith}
 use lib.IntN.{ℤ, pos, ◌*ℤ◌}
@@ -14,7 +14,7 @@ use Rattle.rank1.specs.Tests.{Decides}
 use Rattle.rank1.specs.Residue.{residue}
 use Rattle.rank1.specs.Index.{index_list}
 use Rattle.rank1.specs.Rule.{Admissible}
-use Rattle.rank1.specs.Valid.{Nonnegative}
+use Rattle.rank1.specs.Valid.{ValidList}
 use Rattle.rank1.specs.Axes.{ZeroFrom}
 use Rattle.rank1.proofs.RuleLaws.{prune-whole}
 use Rattle.planner.specs.Sizes.{product_room}
@@ -22,6 +22,7 @@ use Rattle.planner.specs.Inner.{Ready}
 use Rattle.planner.specs.Levels.{level_run, ending}
 use Rattle.planner.specs.Lists.{rows_in}
 use Rattle.planner.specs.Stage.{rule_of, Listed, Prefixed, NoneFrom, EndsHold}
+use Rattle.planner.proofs.products.ProductLaws.{prepared_up_to}
 use Rattle.planner.proofs.levels.LevelLaws.{LevelReady, level_ready, valid_long, zero_from_lem, ending-out}
 
 module _ (s : Search) (at : ℕ) (z products : List ℕ) (listed : Listed s.task) (prefix : Prefixed s at z products) (wide : length products ≡ product_room) where
@@ -31,32 +32,29 @@ module _ (s : Search) (at : ℕ) (z products : List ℕ) (listed : Listed s.task
 
   module _ (xs : List ℤ) (is : xs ≡ level_run s.task.list.now.levels s.task.list.now.sizes at) where
     level : LevelReady (plan_number s.task.rows.plan) s.task.rows.d s.task.listing.top at xs
-    level = subst (LevelReady (plan_number s.task.rows.plan) s.task.rows.d s.task.listing.top at) (sym is) (level_ready (plan_number s.task.rows.plan) s.task.rows.d s.task.rows.numbers.now listed.list s.task.listing.top s.task.list.now.levels s.task.list.now.sizes listed.ends at prefix.within)
+    level = subst (LevelReady (plan_number s.task.rows.plan) s.task.rows.d s.task.listing.top at) (sym is) (level_ready (plan_number s.task.rows.plan) s.task.rows.d s.task.rows.numbers.now s.task.rows.valid s.task.listing.top s.task.list.now.levels s.task.list.now.sizes listed.ends at prefix.within)
+
+    -- they are a valid list
+    pub ends_valid : ValidList (plan_number s.task.rows.plan) s.task.rows.d xs
+    ends_valid = level.valid
 
     -- what the rule asks of them
     pub ends_ready : Ready s.task.rows.d xs s.n (take at z) products
     ends_ready = record {
       modulus = prefix.modulus;
-      some_axes = listed.list.some_axes;
-      few_axes = listed.list.few_axes;
-      whole = level.whole;
-      few_rows = level.few_rows;
-      different = level.different;
+      some_axes = s.task.rows.valid.some_axes;
+      few_axes = s.task.rows.valid.few_axes;
+      whole = level.valid.whole;
+      few_rows = level.valid.few_rows;
+      different = level.valid.different;
       short = omega (arith, fixed, prefix.within);
       ended = λ k m. subst (λ (j : ℕ). ZeroFrom j k) (sym fixed) (level.ended k m);
-      prepared = record {
-        top = s.task.listing.top;
-        covers = level.covers;
-        products = record {
-          size = wide;
-          entry = λ j x l b.
-              prefix.entries j x (omega (arith, fixed)) b ∙ ap (λ (c : ℕ). residue s.n (x *ℤ pos c)) (sym (get_or-take at z j 0 (omega (arith, fixed))));
-        };
-      };
+      prepared = prepared_up_to s.n s.task.listing.top (take at z) xs products level.covers (record {
+        size = wide;
+        entry = λ j x l b.
+            prefix.entries j x (omega (arith, fixed)) b ∙ ap (λ (c : ℕ). residue s.n (x *ℤ pos c)) (sym (get_or-take at z j 0 (omega (arith, fixed))));
+      });
     }
-
-    pub ends_unsigned : 2 ≤ plan_number s.task.rows.plan → (k : List ℤ) → Memᴰ k (index_list s.task.rows.d xs) → Nonnegative k
-    ends_unsigned = level.unsigned
 
     ends_are : index_list s.task.rows.d xs ≡ ending at (rows_in s.task.rows)
     ends_are = ap (index_list s.task.rows.d) is ∙ (listed.ends.level at prefix.within).rows
@@ -81,18 +79,17 @@ module _ (s : Search) (z products : List ℕ) (listed : Listed s.task) (prefix :
   pub list-ready : Ready s.task.rows.d s.task.rows.numbers.now s.n z products
   list-ready = record {
     modulus = prefix.modulus;
-    some_axes = listed.list.some_axes;
-    few_axes = listed.list.few_axes;
-    whole = listed.list.whole;
-    few_rows = listed.list.few_rows;
-    different = listed.list.different;
+    some_axes = s.task.rows.valid.some_axes;
+    few_axes = s.task.rows.valid.few_axes;
+    whole = s.task.rows.valid.whole;
+    few_rows = s.task.rows.valid.few_rows;
+    different = s.task.rows.valid.different;
     short = omega (arith, prefix.size);
-    ended = λ k m i l. beyond k (omega (arith, valid_long (plan_number s.task.rows.plan) s.task.rows.d s.task.rows.numbers.now listed.list k m, prefix.size));
-    prepared = record {
-      top = s.task.listing.top;
-      covers = listed.covers;
-      products = record { size = wide; entry = λ j x l b. prefix.entries j x (omega (arith, prefix.size)) b };
-    };
+    ended = λ k m i l. beyond k (omega (arith, valid_long (plan_number s.task.rows.plan) s.task.rows.d s.task.rows.numbers.now s.task.rows.valid k m, prefix.size));
+    prepared = prepared_up_to s.n s.task.listing.top z s.task.rows.numbers.now products listed.covers (record {
+      size = wide;
+      entry = λ j x l b. prefix.entries j x (omega (arith, prefix.size)) b;
+    });
   }
     where
       beyond : {i : ℕ} (k : List ℤ) → length k ≤ i → get_or k i (pos 0) ≡ pos 0

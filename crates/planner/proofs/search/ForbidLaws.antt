@@ -60,7 +60,7 @@ module _ (s : Search) (before : ℕ) (z sums products : List ℕ) (fixed : Fixed
       rise = bounds_rise s.task.list.now.bounds fixed.tabled.differenced.arranged.bounded
 
       few : s.task.rows.d ≤ axes
-      few = fixed.tabled.listed.list.few_axes
+      few = s.task.rows.valid.few_axes
 
       low : get_or s.task.list.now.bounds ((before + 1) * lasts) 0 ≤ f.which
       low = omega (arith, f.small, f.from, few, rise ((before + 1) * lasts) (suc before * lasts + f.last) (omega arith) (omega (arith, f.small, few)))
@@ -84,5 +84,5 @@ first_none s z tabled some v f y here =
 
     listed : Memᴰ h tabled.differenced.differences × EndsAt 0 f.last h
     listed =
-        tabled.differenced.arranged.listed 0 f.last f.which tabled.listed.list.some_axes f.small
+        tabled.differenced.arranged.listed 0 f.last f.which s.task.rows.valid.some_axes f.small
         (omega (arith, f.from, ap (λ (c : ℕ). get_or s.task.list.now.bounds c 0) run)) (omega (arith, f.to, ap (λ (c : ℕ). get_or s.task.list.now.bounds (suc c) 0) run))

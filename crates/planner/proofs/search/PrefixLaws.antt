@@ -1,13 +1,13 @@
 -- Vectors with the same beginning, as the search compares them, and what it knows of a prefix: that no vector of whole numbers that
 -- meets the rule begins so, or that no first vector does.
-use mathlib.Core.Path.{◌≡◌, sym, ap, ◌∙◌}
+use mathlib.Core.Path.{◌≡◌, ap, ◌∙◌}
 use mathlib.Core.List.{List, map}
-use Prim.Native.Nat.{ℕ, ◌+◌, ◌<◌, ◌≤◌}
+use Prim.Native.Nat.{ℕ, ◌+◌}
 use native.Mathlib.Omega.{arith}
 use borrow.Author.Count.{below_more}
 use lib.IntN.{pos}
-use lib.ListN.{length, get_or, take, set, length-map, get_or-map}
-use lib.Seq.{get_or-take, length-take-le, ext_get_or, get_or-set_other}
+use lib.ListN.{length, get_or, set, length-map, get_or-map}
+use lib.Seq.{ext_get_or, get_or-set_other}
 use Rattle.rank1.specs.Rule.{Rule}
 use Rattle.rank1.specs.Axes.{Agree}
 use Rattle.planner.specs.Stage.{BeginsAs, NoneFrom, NoFirstFrom}
@@ -19,14 +19,6 @@ agree_all y x l same = ext_get_or 0 y x l (λ i h. same i (omega arith))
 -- one component more
 pub agree_more : (k : ℕ) (y z : List ℕ) → Agree k y z → get_or y k 0 ≡ get_or z k 0 → Agree (k + 1) y z
 agree_more k y z below here = below_more (λ i. get_or y i 0 ≡ get_or z i 0) k below here
-
--- the beginnings are one list
-pub agree_take : (k : ℕ) (y z : List ℕ) → k ≤ length y → k ≤ length z → Agree k y z → take k y ≡ take k z
-agree_take k y z ly lz same =
-    ext_get_or 0 (take k y) (take k z) (length-take-le k y ly ∙ sym (length-take-le k z lz))
-    (λ i h.
-    let l : i < k = omega (arith, length-take-le k y ly) in
-    get_or-take k y i 0 l ∙ same i l ∙ sym (get_or-take k z i 0 l))
 
 -- a store at k leaves what stands before it, and is read back there
 pub agree_set : (k v : ℕ) (z : List ℕ) → Agree k (set z k v) z

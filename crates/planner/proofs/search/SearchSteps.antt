@@ -10,8 +10,9 @@ use native.Mathlib.Numerals.{add-one}
 use native.Mathlib.Omega.{arith}
 use borrow.Author.Count.{below_more}
 use lib.IntN.{pos}
-use lib.ListN.{length, get_or, set, get_or-map}
+use lib.ListN.{length, get_or, set, take, drop, get_or-map}
 use lib.Seq.{get_or-set_same}
+use Rattle.std.proofs.lemmas.List.{get_or-take, get_or-drop}
 use Rattle.planner.specs.declared.search.Search.{Search}
 use Rattle.planner.specs.declared.tables.Work.{Work}
 use Rattle.rank1.specs.Tests.{Decides}
@@ -186,10 +187,14 @@ module _
     pub marked : Stage s at z w₁
     marked = stage_kept s at z w z w₁ (kept-marks s at z w w₁ sifted) stage
 
-    -- the values before the first that is left are passed
+    -- the values before the first that is left are passed: their marks stand behind those of the axes before
     pub passed_first :
-        (low r : ℕ) → Lowest s at z low → ((v : ℕ) → low ≤ v → v < r → get_or w₁.struck (at * largest_modulus + v) false ≡ true) → PassedOf s at z w₁ z w₁ r
-    passed_first low r lowest struck = passed-free s at z w₁ marked within w w₁ z w₁ low r refl sifted struck (passed_low s at z w₁ marked within low lowest)
+        (low r k : ℕ) → r ≤ k → Lowest s at z low → ((v : ℕ) → low ≤ v → v < r → get_or (take k (drop (at * largest_modulus) w₁.struck)) v false ≡ true)
+        → PassedOf s at z w₁ z w₁ r
+    passed_first low r k few lowest struck =
+        passed-free s at z w₁ marked within w w₁ z w₁ low r refl sifted
+        (λ v l h. sym (get_or-take k (drop (at * largest_modulus) w₁.struck) v false (omega arith) ∙ get_or-drop (at * largest_modulus) w₁.struck v false) ∙ struck v l h)
+        (passed_low s at z w₁ marked within low lowest)
 
     module _ (w₂ : Work) (added : SumsAdded s at w₁ w₂) where
       -- the sums are set; those up to section at are known

@@ -158,14 +158,14 @@ pub summable :
     (s : Search) (at : ℕ) (z : List ℕ) (w : Work) → Stage s at z w → at < s.task.rows.d → length w.products ≡ product_room → length w.sums ≡ axes * room → Summable s at w
 summable s at z w g within wide summed = record {
   within = within;
-  few_axes = tabled.listed.list.few_axes;
+  few_axes = s.task.rows.valid.few_axes;
   readable = λ before e l.
       readable s before z w (get_or s.task.list.now.bounds ((at + 1) * lasts) 0) (get_or s.task.list.now.bounds (s.task.rows.d * lasts) 0)
       (subst (λ (k : ℕ). Prefixed s k z w.products) (e ∙ sym (add-one before)) g.fixed.prefix) tabled.differenced.small tabled.differenced.arranged.wide wide summed
-      (omega (arith, tabled.listed.list.few_axes)) (bounded.few (s.task.rows.d * lasts))
+      (omega (arith, s.task.rows.valid.few_axes)) (bounded.few (s.task.rows.d * lasts))
       (λ a from to.
       sum_below s (at - 1) before a z w.sums g.fixed.prefix.modulus.low g.sums (omega arith) (omega arith)
-      (omega (arith, bounds_rise s.task.list.now.bounds bounded ((before + 1) * lasts) ((at + 1) * lasts) (omega arith) (omega (arith, tabled.listed.list.few_axes)))) to);
+      (omega (arith, bounds_rise s.task.list.now.bounds bounded ((before + 1) * lasts) ((at + 1) * lasts) (omega arith) (omega (arith, s.task.rows.valid.few_axes)))) to);
 }
   where
     tabled : Tabled s.task
@@ -184,7 +184,7 @@ sums_more s at z w w' g within added = go at refl
     bounded = g.fixed.tabled.differenced.arranged.bounded
 
     few : s.task.rows.d ≤ axes
-    few = g.fixed.tabled.listed.list.few_axes
+    few = s.task.rows.valid.few_axes
 
     kept : SumsTo s (at - 1) z w'.sums
     kept = sums_kept s (at - 1) z z w.sums w'.sums bounded (λ i l. refl) added.kept g.sums
@@ -261,7 +261,7 @@ siftable s at z w g within wide summed = record {
     bounded = tabled.differenced.arranged.bounded
 
     few : s.task.rows.d ≤ axes
-    few = tabled.listed.list.few_axes
+    few = s.task.rows.valid.few_axes
 
 module _ (s : Search) (at v : ℕ) (z : List ℕ) (w : Work) (g : Stage s at z w) (within : at < s.task.rows.d) (less : v < s.values) where
   -- what trying v asks

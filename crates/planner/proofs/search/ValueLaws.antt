@@ -3,7 +3,7 @@
 -- divides n, and those that a difference forbids.
 use mathlib.Core.Path.{◌≡◌, sym, ap, ◌∙◌, subst}
 use mathlib.Core.Logic.{⊎_elim}
-use mathlib.Core.Bool.{false}
+use mathlib.Core.Bool.{false, ◌||◌}
 use mathlib.Core.List.{List, Memᴰ}
 use Prim.Native.Nat.{ℕ, ◌+◌, ◌*◌, ◌%◌, ◌<◌, ◌≤◌}
 use native.Mathlib.Decide.{dec_le}
@@ -27,7 +27,7 @@ use Rattle.rank1.proofs.SwapLaws.{plan_exchanges, swap-first}
 use Rattle.rank1.proofs.FlipLaws.{flip-first}
 use Rattle.planner.specs.Sizes.{axes}
 use Rattle.planner.specs.Lists.{rows_in}
-use Rattle.planner.specs.Stage.{rule_of, Tabled, NoFirstFrom, FirstOf, Raised, unraised, higher, Lowest, nothing, started, raised, ValueEnd, CannotLead}
+use Rattle.planner.specs.Stage.{rule_of, Tabled, NoFirstFrom, FirstOf, Raised, unraised, higher, Lowest, nothing, started, raised, ValueEnd}
 
 -- ---- how the code finds them
 -- one axis more for the lowest value
@@ -41,7 +41,7 @@ module _ (s : Search) (at : ℕ) (tabled : Tabled s.task) (some : 0 < s.n) (few 
   -- every row has d components
   long : (k : List ℤ) → Memᴰ k (rows_in s.task.rows) → length k ≡ s.task.rows.d
   long k m =
-      member_length s.task.rows.d (row_count s.task.rows.d s.task.rows.numbers.now) s.task.rows.numbers.now k (omega (arith, tabled.listed.list.whole)) m
+      member_length s.task.rows.d (row_count s.task.rows.d s.task.rows.numbers.now) s.task.rows.numbers.now k (omega (arith, s.task.rows.valid.whole)) m
 
   -- the start, and interchangeable axes: the component of a first vector is not below r
   pub low-passed :
@@ -78,14 +78,14 @@ module _ (s : Search) (at : ℕ) (tabled : Tabled s.task) (some : 0 < s.n) (few 
 
 -- scaling: the first component of a first vector is 0 or divides n
 pub lead_passed :
-    (rule : Rule) → Scales rule → (s : Search) (at v : ℕ) (z : List ℕ) → 0 < s.n → 1 ≤ s.task.rows.d → CannotLead s at v → get_or z at 0 ≡ v
-    → NoFirstFrom rule s.task.rows.d s.n s.values (at + 1) z
+    (rule : Rule) → Scales rule → (d n b at v : ℕ) (z : List ℕ) → 0 < n → 1 ≤ d → at ≡ 0 → b ≡ n → (eqb v 0 || eqb (n % v) 0) ≡ false → get_or z at 0 ≡ v
+    → NoFirstFrom rule d n b (at + 1) z
 unfolding NoFirstFrom
-lead_passed rule scales s at v z l h cannot is y f same =
+lead_passed rule scales d n b at v z l h first all_values fails is y f same =
     ⊎_elim
-    (λ e. eqb-false v 0 (either_false (eqb v 0) (eqb (s.n % v) 0) cannot.fails).0 (sym here ∙ e))
-    (λ e. eqb-false (s.n % v) 0 (either_false (eqb v 0) (eqb (s.n % v) 0) cannot.fails).1 (ap (λ (x : ℕ). s.n % x) (sym here) ∙ e))
-    (first_component rule scales s.task.rows.d s.n y l h (subst (λ (b : ℕ). FirstBelow rule s.task.rows.d s.n b y) cannot.all_values f))
+    (λ e. eqb-false v 0 (either_false (eqb v 0) (eqb (n % v) 0) fails).0 (sym here ∙ e))
+    (λ e. eqb-false (n % v) 0 (either_false (eqb v 0) (eqb (n % v) 0) fails).1 (ap (λ (x : ℕ). n % x) (sym here) ∙ e))
+    (first_component rule scales d n y l h (subst (λ (c : ℕ). FirstBelow rule d n c y) all_values f))
   where
     here : get_or y 0 0 ≡ v
-    here = ap (λ (j : ℕ). get_or y j 0) (sym cannot.first) ∙ same at (omega arith) ∙ is
+    here = ap (λ (j : ℕ). get_or y j 0) (sym first) ∙ same at (omega arith) ∙ is

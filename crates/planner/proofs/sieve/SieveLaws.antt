@@ -14,9 +14,10 @@ use mir.Syntax.{w16}
 use mir.Val.{to_z, of_z}
 use Rattle.planner.specs.Inner.{place}
 use Rattle.planner.specs.Sizes.{axes, largest_modulus, lasts, places, room, largest_size}
+use Rattle.planner.specs.declared.sieve.Run.{Run}
 use Rattle.planner.specs.declared.tables.ListTables.{ListTables}
 use Rattle.planner.specs.declared.tables.ModulusTables.{ModulusTables}
-use Rattle.planner.specs.Sieve.{Marked, Steps, Marking, Solutions, SolutionsSet, TableAt, Run, product, part, Solves, Struck, product_at, part_at, SumsSet, RunStart, Sievable, Forbidden, Barred, AllBarred, Sieved}
+use Rattle.planner.specs.Sieve.{Marked, Steps, Marking, Solutions, SolutionsSet, TableAt, product, part, PartsReady, Solves, Struck, product_at, part_at, SumsSet, RunStart, Sievable, Forbidden, Barred, AllBarred, Sieved}
 use Rattle.planner.proofs.products.ProductLaws.{read_back, place-lt}
 use Rattle.planner.proofs.runs.RunLaws.{bounds_rise}
 use Rattle.planner.proofs.sieve.Parts.{cut, cut-size, cut_at, pasted, pasted-size, pasted-before, pasted_at}
@@ -72,56 +73,58 @@ pub marked_alone : (v step : ℕ) (old : List Bool) → Marking v step old (set 
 marked_alone v step old = marking_more v step old old v (0, omega arith) (record { size = refl; reason = λ w m. inl m })
 
 -- ---- the values that a run strikes
-module _ (n : ℕ) (sums : List ℕ) (components : List ℤ) (products : List ℕ) (t : ℕ) where
+module _ (r : Run) where
   -- the solution v for the part of difference i is right
-  solution_right : (solutions : List ℕ) (c i v : ℕ) → Solutions n t solutions → c ≡ part n sums components products i → c < n → v ≡ get_or solutions c 0 → v < n → (part n sums components products i + t * v) % n ≡ 0
-  solution_right solutions c i v s e b f o =
-      ap (λ (x : ℕ). (x + t * v) % n) (sym e) ∙ ap (λ (x : ℕ). (c + t * x) % n) f ∙ s.right c b (subst (λ (x : ℕ). x < n) f o)
+  solution_right : (c i v : ℕ) → Solutions r.n r.t r.solutions.now → c ≡ part r i → c < r.n → v ≡ get_or r.solutions.now c 0 → v < r.n → (part r i + r.t * v) % r.n ≡ 0
+  solution_right c i v s e b f o =
+      ap (λ (x : ℕ). (x + r.t * v) % r.n) (sym e) ∙ ap (λ (x : ℕ). (c + r.t * x) % r.n) f ∙ s.right c b (subst (λ (x : ℕ). x < r.n) f o)
 
   -- the part of difference i, as the code finds it from a sum and a component that it reads in turn
   pub part_read :
-      (i c s : ℕ) (x : ℤ) → Run n sums components products → i < length sums → s ≡ get_or sums i 0 → x ≡ get_or components i (pos 0)
-      → c ≡ (s + get_or products (place (to_z w16 (of_z w16 x))) 0) % n → c ≡ part n sums components products i
-  part_read i c s x run l read same e =
+      (i c s : ℕ) (x : ℤ) → PartsReady r → i < length r.sums.now → s ≡ get_or r.sums.now i 0 → x ≡ get_or r.components.now i (pos 0)
+      → c ≡ (s + get_or r.products.now (place (to_z w16 (of_z w16 x))) 0) % r.n → c ≡ part r i
+  part_read i c s x ready l read same e =
       e
-      ∙ ap (λ (y : ℤ). (s + get_or products (place y) 0) % n) (read_back x (rw same (run.small i l)) ∙ same)
-      ∙ ap (λ (r : ℕ). (r + product n sums components products i) % n) read
+      ∙ ap (λ (y : ℤ). (s + get_or r.products.now (place y) 0) % r.n) (read_back x (rw same (ready.small i l)) ∙ same)
+      ∙ ap (λ (k : ℕ). (k + product r i) % r.n) read
 
   -- the marks of all solutions for the part of difference i
-  pub struck_more : (old new newer : List Bool) (solutions : List ℕ) (c i v step : ℕ) → SolutionsSet n t step solutions → i < length sums → c ≡ part n sums components products i → c < n → v ≡ get_or solutions c 0 → Marking v step new newer → Struck n sums components products t old new → Struck n sums components products t old newer
-  struck_more old new newer solutions c i v step r l e b f m s = record { size = m.size ∙ s.size; reason = λ w o q. go w o (m.reason w q) }
+  pub struck_more : (old new newer : List Bool) (c i v : ℕ) → SolutionsSet r.n r.t r.step r.solutions.now → i < length r.sums.now → c ≡ part r i → c < r.n → v ≡ get_or r.solutions.now c 0 → Marking v r.step new newer → Struck r old new → Struck r old newer
+  struck_more old new newer c i v set l e b f m s = record { size = m.size ∙ s.size; reason = λ w o q. go w o (m.reason w q) }
     where
-      go : (w : ℕ) → w < n → Marked new w ⊎ Steps v step w → Marked old w ⊎ Solves n sums components products t w
+      go : (w : ℕ) → w < r.n → Marked new w ⊎ Steps v r.step w → Marked old w ⊎ Solves r w
       go w o (inl q) = s.reason w o q
       go w o (inr q) = inr record {
         which = i;
         inside = l;
-        solved = steps_solve n t (part n sums components products i) v step w r.period q (solution_right solutions c i v r.table e b f (omega (arith, q.1)));
+        solved = steps_solve r.n r.t (part r i) v r.step w set.period q (solution_right c i v set.table e b f (omega (arith, q.1)));
       }
 
 -- ---- the run of the differences that end with component t at the axis behind axis j, as a part of the tables
 module _
-    (n j t : ℕ) (T : ListTables) (products sums : List ℕ) (M : ModulusTables)
-    (s : Sievable n j T products sums M) (short : t < lasts)
-    (begin end : ℕ) (b : RunStart T.bounds j t begin) (e : RunStart T.bounds j (t + 1) end)
+    (r : Run) (j : ℕ) (T : ListTables) (products sums : List ℕ) (M : ModulusTables)
+    (s : Sievable r.n j T products sums M) (short : r.t < lasts)
+    (begin end : ℕ) (b : RunStart T.bounds j r.t begin) (e : RunStart T.bounds j (r.t + 1) end)
+    (sums_cut : r.sums.now ≡ cut begin end sums) (components_cut : r.components.now ≡ cut begin end T.components)
+    (products_cut : r.products.now ≡ cut (j * places) (j * places + places) products)
   where
     -- the number of its difference i among all
     abbrev number : ℕ → ℕ
-    number i = get_or T.bounds (suc j * lasts + t) 0 + i
+    number i = get_or T.bounds (suc j * lasts + r.t) 0 + i
 
     -- where it stands in the tables
     numbered : (i : ℕ) → begin + i ≡ j * room + number i
     numbered i = omega (arith, b.is)
 
     -- the next bound, as the code and as the tables have it
-    next : get_or T.bounds (suc j * lasts + (t + 1)) 0 ≡ get_or T.bounds (suc (suc j * lasts + t)) 0
+    next : get_or T.bounds (suc j * lasts + (r.t + 1)) 0 ≡ get_or T.bounds (suc (suc j * lasts + r.t)) 0
     next = ap (λ (c : ℕ). get_or T.bounds c 0) (omega arith)
 
     -- its differences are among those of the axis
     low : (i : ℕ) → get_or T.bounds (suc j * lasts) 0 ≤ number i
-    low i = omega (arith, bounds_rise T.bounds s.bounded (suc j * lasts) (suc j * lasts + t) (omega arith) (omega (arith, short, s.readable.inner)))
+    low i = omega (arith, bounds_rise T.bounds s.bounded (suc j * lasts) (suc j * lasts + r.t) (omega arith) (omega (arith, short, s.readable.inner)))
 
-    inside : (i : ℕ) → i < end - begin → number i < get_or T.bounds (suc (suc j * lasts + t)) 0
+    inside : (i : ℕ) → i < end - begin → number i < get_or T.bounds (suc (suc j * lasts + r.t)) 0
     inside i l = omega (arith, b.is, e.is, next)
 
     high : (i : ℕ) → i < end - begin → number i < get_or T.bounds (suc (suc j) * lasts) 0
@@ -130,62 +133,66 @@ module _
           arith,
           short,
           inside i l,
-          bounds_rise T.bounds s.bounded (suc (suc j * lasts + t)) (suc (suc j) * lasts) (omega (arith, short)) (omega (arith, s.readable.inner)),
+          bounds_rise T.bounds s.bounded (suc (suc j * lasts + r.t)) (suc (suc j) * lasts) (omega (arith, short)) (omega (arith, s.readable.inner)),
         )
 
     -- its components and sums are those of its differences
-    same_component : (i : ℕ) → i < end - begin → get_or (cut begin end T.components) i (pos 0) ≡ get_or T.components (j * room + number i) (pos 0)
-    same_component i l = cut_at begin end T.components (pos 0) i l ∙ ap (λ (k : ℕ). get_or T.components k (pos 0)) (numbered i)
+    same_component : (i : ℕ) → i < end - begin → get_or r.components.now i (pos 0) ≡ get_or T.components (j * room + number i) (pos 0)
+    same_component i l =
+        ap (λ (xs : List ℤ). get_or xs i (pos 0)) components_cut
+        ∙ cut_at begin end T.components (pos 0) i l
+        ∙ ap (λ (k : ℕ). get_or T.components k (pos 0)) (numbered i)
 
-    same_sum : (i : ℕ) → i < end - begin → get_or (cut begin end sums) i 0 ≡ get_or sums (j * room + number i) 0
-    same_sum i l = cut_at begin end sums 0 i l ∙ ap (λ (k : ℕ). get_or sums k 0) (numbered i)
+    same_sum : (i : ℕ) → i < end - begin → get_or r.sums.now i 0 ≡ get_or sums (j * room + number i) 0
+    same_sum i l = ap (λ (xs : List ℕ). get_or xs i 0) sums_cut ∙ cut_at begin end sums 0 i l ∙ ap (λ (k : ℕ). get_or sums k 0) (numbered i)
 
     -- so are the products
-    same_product : (i : ℕ) → i < end - begin → product n (cut begin end sums) (cut begin end T.components) (cut (j * places) (j * places + places) products) i ≡ product_at n j T.components products sums (number i)
+    same_product : (i : ℕ) → i < end - begin → product r i ≡ product_at r.n j T.components products sums (number i)
     same_product i l =
-        ap (λ (x : ℤ). get_or (cut (j * places) (j * places + places) products) (place x) 0) (same_component i l)
+        ap (λ (y : ℤ). get_or r.products.now (place y) 0) (same_component i l)
+        ∙ ap (λ (xs : List ℕ). get_or xs (place x) 0) products_cut
         ∙ cut_at (j * places) (j * places + places) products 0 (place x) (omega (arith, place-lt x (s.readable.small.covered (j * room + number i))))
       where
         x : ℤ
         x = get_or T.components (j * room + number i) (pos 0)
 
     -- and the parts
-    same_part : (i : ℕ) → i < end - begin → part n (cut begin end sums) (cut begin end T.components) (cut (j * places) (j * places + places) products) i ≡ part_at n j T.components products sums (number i)
+    same_part : (i : ℕ) → i < end - begin → part r i ≡ part_at r.n j T.components products sums (number i)
     same_part i l =
-        ap (λ (x : ℕ). (x + product n (cut begin end sums) (cut begin end T.components) (cut (j * places) (j * places + places) products) i) % n) (same_sum i l)
-        ∙ ap (λ (x : ℕ). (get_or sums (j * room + number i) 0 + x) % n) (same_product i l)
+        ap (λ (x : ℕ). (x + product r i) % r.n) (same_sum i l)
+        ∙ ap (λ (x : ℕ). (get_or sums (j * room + number i) 0 + x) % r.n) (same_product i l)
 
     -- so many differences
-    run-size : length (cut begin end sums) ≡ end - begin
-    run-size = cut-size begin end sums (omega (arith, e.inside, s.readable.summed))
+    run-size : length r.sums.now ≡ end - begin
+    run-size = ap length sums_cut ∙ cut-size begin end sums (omega (arith, e.inside, s.readable.summed))
 
     -- it is ready to be struck by
-    pub run-ready : Run n (cut begin end sums) (cut begin end T.components) (cut (j * places) (j * places + places) products)
+    pub run-ready : PartsReady r
     run-ready = record {
       modulus = s.readable.modulus;
-      paired = cut-size begin end T.components (omega (arith, e.inside, s.readable.wide)) ∙ sym run-size;
-      table = cut-size (j * places) (j * places + places) products (omega (arith, s.readable.tabled, s.readable.inner)) ∙ omega arith;
+      paired = ap length components_cut ∙ cut-size begin end T.components (omega (arith, e.inside, s.readable.wide)) ∙ sym run-size;
+      table = ap length products_cut ∙ cut-size (j * places) (j * places + places) products (omega (arith, s.readable.tabled, s.readable.inner)) ∙ omega arith;
       small = λ i l. subst (λ (x : ℤ). nat_abs x ≤ largest_size) (sym (same_component i (inner i l))) (s.readable.small.covered (j * room + number i));
-      sums_below = λ i l. subst (λ (x : ℕ). x < n) (sym (same_sum i (inner i l))) (s.readable.sums_below (number i) (low i) (high i (inner i l)));
-      products_below = λ i l. subst (λ (x : ℕ). x < n) (sym (same_product i (inner i l))) (s.readable.products_below (number i) (low i) (high i (inner i l)));
+      sums_below = λ i l. subst (λ (x : ℕ). x < r.n) (sym (same_sum i (inner i l))) (s.readable.sums_below (number i) (low i) (high i (inner i l)));
+      products_below = λ i l. subst (λ (x : ℕ). x < r.n) (sym (same_product i (inner i l))) (s.readable.products_below (number i) (low i) (high i (inner i l)));
     }
       where
-        inner : (i : ℕ) → i < length (cut begin end sums) → i < end - begin
+        inner : (i : ℕ) → i < length r.sums.now → i < end - begin
         inner i l = omega (arith, run-size)
 
     -- what it strikes is forbidden
-    pub run_bars : (old new : List Bool) → Struck n (cut begin end sums) (cut begin end T.components) (cut (j * places) (j * places + places) products) t old new → Barred n j T products sums old new
+    pub run_bars : (old new : List Bool) → Struck r old new → Barred r.n j T products sums old new
     run_bars old new k = record { size = k.size; reason = λ v l m. go v (k.reason v l m) }
       where
-        go : (v : ℕ) → Marked old v ⊎ Solves n (cut begin end sums) (cut begin end T.components) (cut (j * places) (j * places + places) products) t v → Marked old v ⊎ Forbidden n j T products sums v
+        go : (v : ℕ) → Marked old v ⊎ Solves r v → Marked old v ⊎ Forbidden r.n j T products sums v
         go v (inl m) = inl m
         go v (inr w) = inr record {
-          last = t;
+          last = r.t;
           which = number w.which;
           small = short;
           from = omega arith;
           to = inside w.which (omega (arith, run-size, w.inside));
-          solved = ap (λ (c : ℕ). (c + t * v) % n) (sym (same_part w.which (omega (arith, run-size, w.inside)))) ∙ w.solved;
+          solved = ap (λ (c : ℕ). (c + r.t * v) % r.n) (sym (same_part w.which (omega (arith, run-size, w.inside)))) ∙ w.solved;
         }
 
 -- ---- all runs of an axis

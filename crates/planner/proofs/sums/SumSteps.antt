@@ -2,9 +2,9 @@
 -- of a row, the sums of one row more, writing the map and the terms, and gathering.
 use mathlib.Core.Path.{◌≡◌, refl, sym, ◌∙◌, ap}
 use mathlib.Core.Bool.{Bool, true, false, cond}
-use mathlib.Core.List.{List, [], ◌∷◌, map, Memᴰ}
+use mathlib.Core.List.{List, [], ◌∷◌, ◌++◌, map, Memᴰ}
 use Prim.Native.Nat.{ℕ, suc, ◌+◌, ◌*◌, ◌^◌, ◌<◌, ◌≤◌}
-use native.Mathlib.Nat.{add-zero, zero-add, suc-mul, mul-le-mul, mul-le-mul_right, le_refl}
+use native.Mathlib.Nat.{add-zero, suc-mul, mul-le-mul, mul-le-mul_right, le_refl}
 use native.Mathlib.Numerals.{add-one}
 use native.Mathlib.Omega.{arith}
 use borrow.Author.Rules.{sfits_of}
@@ -13,7 +13,7 @@ use lib.Dec.{eqb, leb}
 use lib.IntN.{ℤ, pos, nat_abs, ◌+ℤ◌, ◌*ℤ◌, +ℤ_assoc, *ℤ_comm, suc_ℤ-*ℤ}
 use lib.Signed.{mag, quot_z}
 use lib.ListN.{length, get_or, take, set, length-set, length-map}
-use lib.Seq.{get_or-set_same, get_or-set_other, get_or-take, length-take-le, take_all, take-take}
+use lib.Seq.{get_or-set_same, get_or-set_other, get_or-take, length-take-le, take_all, take-suc, take-suc-set, take-take}
 use mir.Syntax.{w32, w64}
 use mir.Val.{to_z, of_z}
 use mir.Facts.{to_z-of_z}
@@ -22,7 +22,7 @@ use Rattle.rank1.specs.Index.{mirrors}
 use Rattle.rank1.specs.Sums.{mirrors_under, copies_at, copies, residue_map, sum_at, spread_sums, gathered_term, gathers, in32}
 use Rattle.rank1.proofs.ResidueLaws.{residue-lt}
 use Rattle.rank1.proofs.MirrorLaws.{mirrors_first}
-use Rattle.rank1.proofs.UpTo.{get_d_map, map-up_to_is}
+use Rattle.rank1.proofs.UpTo.{map-up_to_is}
 use Rattle.rank1.proofs.CountLaws.{count_map, count-take, count-le, at_places}
 use Rattle.rank1.proofs.WholeSums.{abs_add, mag_abs, abs_in32, in32_mag}
 use Rattle.rank1.proofs.SumLaws.{under-length, copies_some, copies-le, row_small, sum_take, sum_part_small, map-length, map-residue, map-copies}
@@ -30,12 +30,12 @@ use Rattle.std.proofs.Common.{Option, None, Some}
 use Rattle.std.specs.Option.{MatchOption, is_some}
 use Rattle.std.specs.Bool.{◌==◌}
 use Rattle.std.specs.List.{count_by}
+use Rattle.std.proofs.lemmas.List.{get_or-map}
 use Rattle.std.proofs.lemmas.List.Sums.{sum_by-cons}
 use Rattle.rank1.specs.Tests.{every}
 use Rattle.rank1.proofs.TestLaws.{true_every}
 use Rattle.planner.specs.Sizes.{axes, most_mirrors}
 use Rattle.planner.specs.Inner.{occurrences, Addable, divides, EntryOf}
-use Rattle.planner.proofs.Writing.{write_more}
 use Rattle.planner.proofs.sums.SignedSteps.{short}
 
 -- ---- counting the numbers x among the first t
@@ -138,7 +138,7 @@ module _ (plan n : ℕ) (z : List ℕ) (k : List ℤ) where
     residues_at : (t : ℕ) → t < length rs → get_or rs t 0 ≡ residue_at n (map pos z) (get_or (mirrors_under plan k) t [])
     residues_at t l =
         ap (λ (xs : List ℕ). get_or xs t 0) is
-        ∙ get_d_map (residue_at n (map pos z)) (mirrors_under plan k) t [] 0 (omega (arith, residues_length))
+        ∙ get_or-map (residue_at n (map pos z)) (mirrors_under plan k) t [] 0 (omega (arith, residues_length))
 
     -- the first is that of k
     first_residue : 0 < length rs → get_or rs 0 0 ≡ residue_at n (map pos z) k
@@ -218,7 +218,12 @@ module _ {A : Type 0} (out xs : List A) where
   -- one more element
   pub fill_more : (j : ℕ) (v d : A) → j < length out → j < length xs → v ≡ get_or xs j d → take j out ≡ take j xs → take (j + 1) (set out j v) ≡ take (j + 1) xs
   fill_more j v d l m e so_far =
-      simp zero-add at (write_more [] out xs 0 j v d (rw zero-add l) m e (rw zero-add so_far))
+      ap (λ (k : ℕ). take k (set out j v)) (add-one j)
+      ∙ take-suc-set out j v l
+      ∙ ap (λ (t : List A). t ++ (v ∷ [])) so_far
+      ∙ ap (λ (w : A). take j xs ++ (w ∷ [])) e
+      ∙ sym (take-suc xs j d m)
+      ∙ ap (λ (k : ℕ). take k xs) (sym (add-one j))
 
   -- all
   pub fill_all : (j : ℕ) → length out ≡ length xs → length xs ≤ j → take j out ≡ take j xs → out ≡ xs

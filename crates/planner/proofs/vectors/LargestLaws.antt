@@ -1,7 +1,8 @@
--- The largest component of a vector is what `max` picks of its components, and `<` of two vectors is dictionary order.
-use Rattle.std.proofs.Common.{◌≡◌, ◌≢◌, refl, sym, ◌∙◌, List, [], ◌∷◌, length, ℕ, max, arith, Bool, true, false, cond, eqb, ltb, Some, inl, inr, ltb-true, ltb-false}
+-- The largest component of a vector is what `max` picks of its components, `<` of two vectors is dictionary order, and with their largest
+-- components in front it is the order of gentler settings.
+use Rattle.std.proofs.Common.{◌≡◌, ◌≢◌, refl, sym, ◌∙◌, List, [], ◌∷◌, length, ℕ, ◌<◌, max, arith, subst, Bool, true, false, cond, eqb, ltb, Some, inl, inr, ltb-true, ltb-false}
 use mathlib.Core.Bool.{true≢false}
-use mathlib.Core.Logic.{⊎_elim}
+use mathlib.Core.Logic.{◌⊎◌, ⊎_elim}
 use borrow.Author.Tests.{eq-eqb, ne_eqb}
 use Rattle.std.specs.Ordering.{nat_cmp, is_lt, is_some_and}
 use Rattle.std.specs.Cmp.Lexicographic.{slice_partial_cmp}
@@ -10,7 +11,7 @@ use Rattle.std.proofs.lemmas.Cmp.{same_from_slice_cmp_tested}
 use Rattle.std.specs.List.{fold, reduce}
 use Rattle.std.specs.Option.{unwrap_or}
 use Rattle.rank1.specs.Tests.{Decides}
-use Rattle.rank1.specs.Search.{largest, Before}
+use Rattle.rank1.specs.Search.{largest, Before, Gentler}
 use Rattle.rank1.proofs.Order.{compared}
 
 -- with a first one a
@@ -49,6 +50,13 @@ decides_before (a ∷ y) (b ∷ z) e =
     tied : a ≡ b → Decides (comes_before y z) (Before y z) → Decides (comes_before (a ∷ y) (b ∷ z)) (Before (a ∷ y) (b ∷ z))
     tied same rest =
         rw (eq-eqb a b same) (record { yes = λ t. inr (same, rest.yes t); no = λ f. ⊎_elim (λ l. omega arith) (λ p. rest.no f p.1) })
+
+-- the vectors with their largest components in front
+pub decides_gentler : (y z : List ℕ) (a b : ℕ) → length y ≡ length z → a ≡ largest y → b ≡ largest z → Decides (comes_before (a ∷ y) (b ∷ z)) (Gentler y z)
+unfolding Gentler Before
+decides_gentler y z a b e f g =
+    subst (λ (m : ℕ). Decides (comes_before (a ∷ y) (b ∷ z)) ((m < largest z) ⊎ ((m ≡ largest z) × Before y z))) f
+    (subst (λ (m : ℕ). Decides (comes_before (a ∷ y) (b ∷ z)) ((a < m) ⊎ ((a ≡ m) × Before y z))) g (decides_before (a ∷ y) (b ∷ z) (omega arith)))
 
 -- what `<` of two vectors answers
 pub less_is : (y z : List ℕ) (r : Bool) → r ≡ is_some_and is_lt (slice_partial_cmp (λ a b. Some (nat_cmp a b)) y z) → r ≡ comes_before y z

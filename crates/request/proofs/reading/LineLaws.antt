@@ -10,7 +10,7 @@ use lib.Dec.{ltb}
 use Rattle.request.specs.Text.{space, newline}
 use Rattle.request.specs.Reading.{Parsed, bad, got, and_then, read_line}
 use Rattle.request.specs.Inner.{before, separator_of}
-use Rattle.request.proofs.CondLaws.{cond_false, cond_true}
+use Rattle.std.proofs.lemmas.Bool.{cond-false, cond-true}
 use Rattle.request.proofs.reading.ByteLaws.{before_then}
 
 -- ---- parts put before what is read next
@@ -58,8 +58,8 @@ module _ {A : Type 0} (field : List ℕ → Parsed A) where
 
 -- the byte behind field j of d, where k fields are left behind it
 separator_left_lem : (j d k : ℕ) → d ≡ j + suc k → separator_of j d ≡ separator_left k
-separator_left_lem j d zero e = cond_false (ltb (j + 1) d) space newline (le-ltb (j + 1) d (omega arith))
-separator_left_lem j d (suc k) e = cond_true (ltb (j + 1) d) space newline (lt-ltb (j + 1) d (omega arith))
+separator_left_lem j d zero e = cond-false (ltb (j + 1) d) space newline (le-ltb (j + 1) d (omega arith))
+separator_left_lem j d (suc k) e = cond-true (ltb (j + 1) d) space newline (lt-ltb (j + 1) d (omega arith))
 
 -- ---- a line of d fields, one field a turn: the first j fields xs are read, and the others are left
 pub record LineSoFar {A : Type 0} (field : List ℕ → Parsed A) (s : List ℕ) (d : ℕ) (xs : List A) (j : ℕ) (rest : List ℕ) : Type 0 where

@@ -9,10 +9,10 @@ use Rattle.request.proofs.CallerLaws.{request_answered}
 use Rattle.request.proofs.write_answer.Goals as goal
 
 pub returns-in-Ok : goal.returns-in-Ok
-returns-in-Ok c = request_answered c.args.text.now c.answer_request.new.writer c.read_request.new.rows c.in-Ok.asked c.in-Ok.ensures c.answer_request.ensures
+returns-in-Ok c = request_answered c.args.text.now c.answer_request.new.writer c.in-Ok.asked c.in-Ok.ensures c.answer_request.ensures
 
 pub returns-in-Err : goal.returns-in-Err
 returns-in-Err c =
     let text : refusal_text (number c.in-Err.refusal) ≡ c.refusal.new.self =
-    ap refusal_text (sym c.from.ensures) ∙ ap (λ (s : List ℕ). s ++ refusal_text c.from.result) (sym c.requires) ∙ sym c.refusal.ensures in
+    ap (λ (s : List ℕ). s ++ refusal_text (number c.in-Err.refusal)) (sym c.requires) ∙ sym c.refusal.ensures in
     subst (AnswerTo c.args.text.now) text (refused_answer c.args.text.now (number c.in-Err.refusal) c.in-Err.ensures)

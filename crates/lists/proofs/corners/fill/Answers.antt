@@ -10,12 +10,13 @@ use lib.Dec.{T}
 use lib.IntN.{ℤ, pos}
 use lib.ListN.{length, get_or, take, drop, length-take, length-drop}
 use lib.Seq.{length-take-le, take_at, take_all}
+use Rattle.std.proofs.lemmas.List.{take-replicate}
 use Rattle.rank1.specs.Index.{index_list, run_of}
 use Rattle.rank1.specs.Corners.{under_some, CornerList}
 use Rattle.rank1.proofs.CornerLaws.{corner_rows, run_corners, at_within, first_place}
 use Rattle.lists.specs.Inner.{ValidCorners, Stepped}
 use Rattle.lists.proofs.corners.PlaceLaws.{next_place, last-place}
-use Rattle.lists.proofs.corners.FillLaws.{fill_more, take-replicate, zero_within}
+use Rattle.lists.proofs.corners.FillLaws.{fill_more, zero_within}
 use Rattle.lists.proofs.corners.fill.Goals as goal
 use Rattle.lists.proofs.corners.fill.Goals.{After-copy_from_slice, After-next, Start}
 

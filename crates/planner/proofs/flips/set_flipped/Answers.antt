@@ -14,13 +14,13 @@ covered c = subst (Covered largest_size) (sym c.flip_row.ensures) (covered_flip 
 pub negate-requires : goal.negate-requires
 negate-requires c = covered (goal.at.negate-requires c).After-flip_row
 
-pub returns-then-h-e-lt0 : goal.returns-then-h-e-lt0
-returns-then-h-e-lt0 c =
+pub returns-then-is_some_and : goal.returns-then-is_some_and
+returns-then-is_some_and c =
     let turned = c.negate.ensures in (
       inr (turned ∙ ap negative c.flip_row.ensures),
       subst (Covered largest_size) (sym turned)
-          (covered_negative largest_size c.flip_row.new.h (covered (goal.at.returns-then-h-e-lt0 c).After-flip_row)),
+          (covered_negative largest_size c.flip_row.new.h (covered (goal.at.returns-then-is_some_and c).After-flip_row)),
     )
 
-pub returns-else-h-e-lt0 : goal.returns-else-h-e-lt0
-returns-else-h-e-lt0 c = (inl c.flip_row.ensures, covered (goal.at.returns-else-h-e-lt0 c).After-flip_row)
+pub returns-else-is_some_and : goal.returns-else-is_some_and
+returns-else-is_some_and c = (inl c.flip_row.ensures, covered (goal.at.returns-else-is_some_and c).After-flip_row)

@@ -1,52 +1,82 @@
--- `planner::levels::keep_ending` meets its contract. The invariant: the numbers of the rows passed that end by axis j stand at the front
--- of `out` (`keep-turn`).
-use Rattle.std.proofs.Common.{rules, arith, ◌≡◌, sym, ap, subst, ℕ, ◌+◌, ◌*◌, ◌<◌, ◌≤◌, length, take}
-use native.Mathlib.Numerals.{add-one}
-use Rattle.rank1.specs.Index.{rows_of, row_count}
-use Rattle.rank1.proofs.IndexLaws.{row_inside}
-use Rattle.planner.specs.Inner.{row_at}
-use Rattle.planner.specs.Levels.{ending, RunOf}
-use Rattle.planner.proofs.RowLaws.{next_row, no-row, one-more}
-use Rattle.planner.proofs.levels.LevelLaws.{Keeping, keep-turn}
+-- `planner::levels::keep_ending` meets its contract. The invariant: the numbers of the rows that passed the test stand at the front of
+-- `out` (`keep-turn`).
+use Rattle.std.proofs.Common.{rules, tests, arith, refl, ◌≡◌, ◌∙◌, sym, ap, subst, ℕ, ◌+◌, ◌-◌, ◌<◌, ◌≤◌, length, get_or, List, ℤ}
+use borrow.Rule.Slice.PartMut.{put_mid}
+use lib.Seq.{paste}
+use Rattle.std.proofs.lemmas.List.{length_push}
+use Rattle.std.proofs.lemmas.Slice.{put_mid-paste}
+use Rattle.std.proofs.lemmas.Iterator.Consumers.{YieldsList-at, YieldsList-from_filter, YieldsList-turn, YieldsList-end}
+use Rattle.rank1.specs.Index.{index_list}
+use Rattle.planner.specs.Levels.{zero_from, ending}
+use Rattle.planner.proofs.RowLaws.{rows_yielded}
+use Rattle.planner.proofs.levels.LevelLaws.{Keeping, ending_filter, keep_none, kept-long, kept-room, keep-turn, kept-all}
 use Rattle.planner.proofs.levels.keep_ending.Goals as goal
 use Rattle.planner.proofs.levels.keep_ending.Goals.{In-Some}
 
--- the row that comes is the next of the list
+-- the row that comes is the next that ends by axis j
 next :
     (c : In-Some)
-    → (length c.loop-row.yielded < row_count c.args.rows.now.d c.args.rows.now.numbers.now)
-    × (c.in-Some.row.now ≡ row_at c.args.rows.now.d c.args.rows.now.numbers.now (length c.loop-row.yielded))
-    × (length c.in-Some.row.now ≡ c.args.rows.now.d)
+    → (length c.loop-row.yielded < length (ending c.args.j (index_list c.args.rows.now.d c.args.rows.now.numbers.now)))
+    × (c.in-Some.row.now ≡ get_or (ending c.args.j (index_list c.args.rows.now.d c.args.rows.now.numbers.now)) (length c.loop-row.yielded) c.in-Some.row.now)
 next c =
     let rows = c.args.rows.now in
-    next_row rows.d rows.numbers.now _ c.requires.whole_rows.some_axes (search rules) (search rules) c.loop-row.yielded _ c.loop-row.yielded_by _ _ _ c.in-Some.is c.next.ensures.steps
+    let come = YieldsList-turn
+    (YieldsList-at c.into_iter-row-iterator.ensures.into_iter_gives
+    (YieldsList-from_filter _ (zero_from c.args.j)
+    (YieldsList-at c.filter-row-items.ensures.source (rows_yielded rows.d rows.numbers.now rows.valid.some_axes c.each.ensures.rest c.each.ensures.size))
+    c.filter-row-items.ensures.closure (λ x r q k. search (rules, tests))))
+    c.loop-row.yielded _ c.loop-row.yielded_by _ _ _ c.in-Some.is c.next.ensures.steps in
+    let same = ending_filter c.args.j (index_list rows.d rows.numbers.now) in
+    (omega (arith, come.0, ap (length {A = List ℤ}) same), come.1 ∙ ap (λ (ks : List (List ℤ)). get_or ks (length c.loop-row.yielded) c.in-Some.row.now) same)
 
-room : (c : In-Some) → (length c.loop-row.yielded + 1) * c.args.rows.now.d ≤ length c.args.rows.now.numbers.now
-room c = let rows = c.args.rows.now in row_inside rows.d (length c.loop-row.yielded) rows.numbers.now (next c).0 c.requires.whole_rows.whole
+pub loop-row-init : goal.loop-row-init
+loop-row-init c = let rows = c.args.rows.now in keep_none rows.d c.args.j rows.numbers.now c.args.out.now rows.valid.some_axes
 
-pub keep_row-at-requires : goal.keep_row-at-requires
-keep_row-at-requires c =
-    let here = (goal.at.keep_row-at-requires c).In-Some in
+-- so it has d components, and there is room for it
+fits : (c : In-Some) → (length c.in-Some.row.now ≡ c.args.rows.now.d) × (c.loop-row.at + length c.in-Some.row.now ≤ length c.loop-row.out)
+fits c =
+    let rows = c.args.rows.now in
+    let here = next c in
     let v = c.loop-row.invariant in
-    (omega (arith, (next here).2), omega (arith, (next here).2, room here, v.fits, v.same))
+    let i = length c.loop-row.yielded in
+    let row = c.in-Some.row.now in
+    let long = kept-long rows.d c.args.j i rows.numbers.now row rows.valid.some_axes rows.valid.whole here.0 here.1 in
+    let inside = kept-room rows.d c.args.j i rows.numbers.now row rows.valid.some_axes rows.valid.whole here.0 here.1 in
+    (long, omega (arith, long, v.fits, v.same, c.requires, inside))
+
+pub overflow_add-at : goal.overflow_add-at
+overflow_add-at c = search (rules, fits (goal.at.overflow_add-at c).In-Some)
+
+pub offset_bounds-out-at : goal.offset_bounds-out-at
+offset_bounds-out-at c = search (rules, fits (goal.at.offset_bounds-out-at c).In-Some)
+
+pub slice_bounds-copy_from_slice-end : goal.slice_bounds-copy_from_slice-end
+slice_bounds-copy_from_slice-end c = search (rules, fits (goal.at.slice_bounds-copy_from_slice-end c).In-Some)
 
 pub loop-row-preserved : goal.loop-row-preserved
 loop-row-preserved c =
-    let l = c.loop-row in
     let rows = c.args.rows.now in
-    let here = (goal.at.loop-row-preserved c).In-Some in
-    subst (λ (i : ℕ). Keeping rows.d c.args.j i rows.numbers.now c.args.out.now c.keep_row-at.new.out c.keep_row-at.result) (sym (one-more l.yielded c.in-Some.row))
-    (keep-turn rows.d c.args.j (length l.yielded) rows.numbers.now c.args.out.now l.out l.at l.invariant c.in-Some.row.now _ c.keep_row-at.result (next here).1
-    c.requires.whole_rows.some_axes (rw (← add-one) (room here)) c.requires.j_le_d.1 c.keep_row-at.ensures)
+    let l = c.loop-row in
+    let row = c.in-Some.row.now in
+    let here = next (goal.at.loop-row-preserved c).In-Some in
+    let turned =
+    keep-turn rows.d c.args.j (length l.yielded) rows.numbers.now row rows.valid.some_axes rows.valid.whole here.0 here.1 c.args.out.now l.out l.at
+    c.requires l.invariant in
+    let written : put_mid l.at (l.at + length row - l.at) l.out c.copy_from_slice.new.self ≡ paste l.out l.at row (length row) =
+    put_mid-paste _ _ l.out _ row (length row) c.copy_from_slice.ensures.after (omega arith) refl in
+    subst (λ (i : ℕ). Keeping rows.d c.args.j i rows.numbers.now c.args.out.now (put_mid l.at (l.at + length row - l.at) l.out c.copy_from_slice.new.self) (l.at + length row))
+    (sym (length_push l.yielded c.in-Some.row))
+    (subst (λ (new : List ℤ). Keeping rows.d c.args.j (length l.yielded + 1) rows.numbers.now c.args.out.now new (l.at + length row)) (sym written) turned)
 
 pub returns : goal.returns
 returns c =
     let rows = c.args.rows.now in
-    let v = c.loop-row.invariant in
     let all =
-    no-row rows.d rows.numbers.now _ c.requires.whole_rows.some_axes (search rules) (search rules) c.loop-row.yielded _ c.loop-row.yielded_by _ _ c.in-None.is c.next.ensures.steps in
-    record {
-      level = subst (λ (m : ℕ). RunOf rows.d (ending c.args.j (rows_of rows.d m rows.numbers.now)) (take c.loop-row.at c.loop-row.out)) all v.level;
-      fits = omega (arith, v.fits, ap (λ (m : ℕ). m * rows.d) all, c.requires.whole_rows.whole);
-      covers = v.covers;
-    }
+    YieldsList-end
+    (YieldsList-at c.into_iter-row-iterator.ensures.into_iter_gives
+    (YieldsList-from_filter _ (zero_from c.args.j)
+    (YieldsList-at c.filter-row-items.ensures.source (rows_yielded rows.d rows.numbers.now rows.valid.some_axes c.each.ensures.rest c.each.ensures.size))
+    c.filter-row-items.ensures.closure (λ x r q k. search (rules, tests))))
+    c.loop-row.yielded _ c.loop-row.yielded_by _ _ c.in-None.is c.next.ensures.steps in
+    kept-all rows.d c.args.j (length c.loop-row.yielded) rows.numbers.now c.args.out.now c.loop-row.out c.loop-row.at rows.valid.whole
+    (all.1 ∙ ap (length {A = List ℤ}) (ending_filter c.args.j (index_list rows.d rows.numbers.now))) c.loop-row.invariant

@@ -21,11 +21,11 @@ loop-j-preserved c =
     let a = c.args in
     let rows = a.rows.now in
     let l = c.loop-j in
-    let v = c.requires.valid_list.0 in
+    let v = rows.valid in
     let e : l.j * level_room + level_room - l.j * level_room ≡ level_room = omega arith in (
       levels-more rows.d a.top l.j rows.numbers.now l.list.levels l.list.sizes (l.j * level_room + level_room - l.j * level_room)
           c.keep_ending.result c.keep_ending.new.out e (omega (arith, v.few_axes)) (omega arith) (omega arith)
-          (valid_size (plan_number rows.plan) rows.d rows.numbers.now v) c.requires.valid_list.1 c.keep_ending.auto.out
+          (valid_size (plan_number rows.plan) rows.d rows.numbers.now v) c.requires.covered c.keep_ending.auto.out
           c.keep_ending.ensures l.invariant.0,
       others_stay l.list c.args.list.now _ _ l.invariant.1,
     )

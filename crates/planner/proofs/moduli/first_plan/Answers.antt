@@ -13,8 +13,7 @@ start_of-start-requires c =
     let a = c.args in
     let rows = a.rows.now in
     let plan = plan_number rows.plan in
-    let s = c.requires.0 in
-    ap (least_refusal plan) c.requires.1 ∙ recount_kept plan rows.d rows.numbers.now s.list (few_plans rows.plan)
+    ap (least_refusal plan) c.requires.1 ∙ recount_kept plan rows.d rows.numbers.now rows.valid (few_plans rows.plan)
 
 pub returns-then-high-start : goal.returns-then-high-start
 returns-then-high-start c =
@@ -23,12 +22,12 @@ returns-then-high-start c =
     let plan = plan_number rows.plan in
     let s = c.requires.0 in
     let start = c.start_of-start in
-    all_counted plan rows.d a.low start.result a.high rows.numbers.now a.tally s.list c.requires.1 s.some start.ensures a.z.now c.if-high-start.true
+    all_counted plan rows.d a.low start.result a.high rows.numbers.now a.tally rows.valid c.requires.1 s.some start.ensures a.z.now c.if-high-start.true
 
 pub search_list-requires : goal.search_list-requires
 search_list-requires c =
     let s = c.requires.0 in
-    record { list = s.list; some = omega (arith, s.some, c.start_of-start.ensures); few = s.few; places_for_z = s.places_for_z }
+    record { some = omega (arith, s.some, c.start_of-start.ensures); few = s.few; places_for_z = s.places_for_z }
 
 pub returns : goal.returns
 returns c =
@@ -38,4 +37,4 @@ returns c =
     let s = c.requires.0 in
     let start = c.start_of-start in
     let call = c.search_list in
-    rest-run plan rows.d a.low start.result a.high rows.numbers.now a.tally s.list c.requires.1 s.some start.ensures a.z.now call.new.z call.result call.ensures
+    rest-run plan rows.d a.low start.result a.high rows.numbers.now a.tally rows.valid c.requires.1 s.some start.ensures a.z.now call.new.z call.result call.ensures

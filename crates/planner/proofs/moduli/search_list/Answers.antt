@@ -5,18 +5,17 @@ use mathlib.Core.Bool.{Bool, false}
 use mathlib.Core.List.{List}
 use Prim.Native.Nat.{◌+◌, ◌*◌}
 use native.Mathlib.Omega.{arith}
-use lib.ListN.{length, get_or, replicate}
+use lib.ListN.{get_or, replicate}
 use Rattle.planner.specs.declared.tables.ListTables.{ListTables}
 use Rattle.planner.specs.Inner.{Covered}
 use Rattle.planner.specs.Sizes.{axes, room, level_room}
 use Rattle.planner.proofs.products.ProductLaws.{covered_zeros}
-use Rattle.planner.proofs.axes.AxisLaws.{unmarked}
+use Rattle.planner.proofs.Writing.{unwritten}
 use Rattle.planner.proofs.moduli.search_list.Goals as goal
 use Rattle.planner.proofs.moduli.search_list.Goals.{After-set_levels}
 
 pub set_differences-listing-requires : goal.set_differences-listing-requires
-set_differences-listing-requires c =
-    record { list = c.requires.list; zeros = covered_zeros 0 (axes * room) (omega arith) }
+set_differences-listing-requires c = covered_zeros 0 (axes * room) (omega arith)
 
 pub set_levels-requires-clause-level_places : goal.set_levels-requires-clause-level_places
 set_levels-requires-clause-level_places c =
@@ -28,9 +27,7 @@ set_levels-requires-clause-level_places c =
 no_swaps : (c : After-set_levels) → c.set_levels.new.list.swaps ≡ replicate (axes * axes) false
 no_swaps c = ap (λ (T : ListTables). T.swaps) c.set_levels.ensures.only ∙ ap (λ (T : ListTables). T.swaps) c.set_differences-listing.ensures.only
 
-pub set_swaps-requires-clause-swaps_len : goal.set_swaps-requires-clause-swaps_len
-set_swaps-requires-clause-swaps_len c =
-    let e = no_swaps (goal.at.set_swaps-requires-clause-swaps_len c).After-set_levels in (
-      ap length e,
-      (λ i. subst (λ (s : List Bool). get_or s i false ≡ false) (sym e) (unmarked (axes * axes) i)),
-    )
+pub set_swaps-requires : goal.set_swaps-requires
+set_swaps-requires c =
+    let e = no_swaps (goal.at.set_swaps-requires c).After-set_levels in
+    λ i. subst (λ (s : List Bool). get_or s i false ≡ false) (sym e) (unwritten false (axes * axes) i)

@@ -7,9 +7,10 @@ use Rattle.planner.proofs.rule.admits.Goals as goal
 
 pub returns : goal.returns
 returns c =
-    let rows = c.args.rows.now in
-    let lattice = c.of-lattice in
+    let made = c.of.ensures in
+    let lattice = c.of.result in
     let r = c.keeps_rule in
-    let told = rule_is (rows_in rows) lattice.result.n (map pos lattice.result.z.now) (plan_number rows.plan) r.result r.ensures.decided.yes r.ensures.decided.no in
-    let modulus = rw lattice.ensures.made.0 at told in
-    rw lattice.ensures.made.1 at modulus
+    let told = rule_is (rows_in lattice.rows) lattice.n (map pos lattice.z.now) (plan_number lattice.rows.plan) r.result r.ensures.yes r.ensures.no in
+    let listed = rw made.0 at told in
+    let modulus = rw made.1 at listed in
+    rw made.2 at modulus

@@ -1,4 +1,5 @@
 -- `sieve::strike_run`: the run is a part of the tables (`run-ready`), and what it strikes is forbidden (`run_bars`).
+use mathlib.Core.Path.{refl}
 use native.Mathlib.Omega.{arith}
 use lib.ListN.{get_or}
 use Rattle.planner.proofs.sieve.SieveLaws.{run-ready, run_bars, table-cut}
@@ -8,8 +9,9 @@ pub strike-requires : goal.strike-requires
 strike-requires c =
     let a = c.args in
     record {
-      run =
-          run-ready a.prefix.now.n a.prefix.now.before a.t a.list.now a.prefix.now.products.now a.prefix.now.sums.now a.modulus.now c.requires.sievable c.requires.t_lt_lasts.0 c.run_start-begin.result c.run_start-end.result c.run_start-begin.ensures c.run_start-end.ensures;
+      parts =
+          run-ready _ a.prefix.now.before a.list.now a.prefix.now.products.now a.prefix.now.sums.now a.modulus.now c.requires.sievable c.requires.t_lt_lasts.0
+          c.run_start-begin.result c.run_start-end.result c.run_start-begin.ensures c.run_start-end.ensures refl refl refl;
       solved =
           table-cut a.prefix.now.n a.t (get_or a.modulus.now.starts a.t 0) c.in-Some.step c.from.result a.modulus.now.solutions c.from.ensures (c.requires.sievable.solved.tables a.t c.in-Some.step c.requires.t_lt_lasts.0 c.in-Some.is);
       inside = c.requires.t_lt_lasts.1;
@@ -18,9 +20,8 @@ strike-requires c =
 pub returns-then-begin-end : goal.returns-then-begin-end
 returns-then-begin-end c =
     let a = c.args in
-    let struck = c.strike in
-    run_bars a.prefix.now.n a.prefix.now.before a.t a.list.now a.prefix.now.products.now a.prefix.now.sums.now a.modulus.now c.requires.sievable c.requires.t_lt_lasts.0
-    c.run_start-begin.result c.run_start-end.result c.run_start-begin.ensures c.run_start-end.ensures a.struck.now struck.new.struck struck.ensures
+    run_bars _ a.prefix.now.before a.list.now a.prefix.now.products.now a.prefix.now.sums.now a.modulus.now c.requires.sievable c.requires.t_lt_lasts.0
+    c.run_start-begin.result c.run_start-end.result c.run_start-begin.ensures c.run_start-end.ensures refl refl refl a.struck.now c.strike.new.struck c.strike.ensures
 
 -- the table of solutions stands among the numbers
 pub overflow_add-stop : goal.overflow_add-stop
@@ -31,6 +32,6 @@ pub offset_bounds-modulus-start : goal.offset_bounds-modulus-start
 offset_bounds-modulus-start c =
     omega (arith, (c.requires.sievable.solved.tables c.args.t c.in-Some.step c.requires.t_lt_lasts.0 c.in-Some.is).inside)
 
-pub slice_bounds-strike-end : goal.slice_bounds-strike-end
-slice_bounds-strike-end c =
+pub slice_bounds-run-end-then-begin-end-3 : goal.slice_bounds-run-end-then-begin-end-3
+slice_bounds-run-end-then-begin-end-3 c =
     omega (arith, (c.requires.sievable.solved.tables c.args.t c.in-Some.step c.requires.t_lt_lasts.0 c.in-Some.is).inside)

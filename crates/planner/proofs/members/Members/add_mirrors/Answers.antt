@@ -1,6 +1,5 @@
 -- `members::Members::add_mirrors`: the row, its mirrors or nothing of it come behind the members that are there.
-use mathlib.Core.Path.{refl, ap}
-use mathlib.Core.Logic.{⊎_elim}
+use mathlib.Core.Path.{refl, sym, ◌∙◌}
 use native.Mathlib.Omega.{arith}
 use lib.ListN.{length}
 use Rattle.rank1.specs.Named.{plan_number}
@@ -30,25 +29,22 @@ add_signs-requires c =
           (pushed (goal.at.add_signs-requires c).After-push),
     )
 
-pub returns-in-Integration : goal.returns-in-Integration
-returns-in-Integration c =
+pub returns-else-takes_mirrors : goal.returns-else-takes_mirrors
+returns-else-takes_mirrors c =
     let k = c.args.row.now in
     let m = c.args.self.now in
-    let p = pushed (goal.at.returns-in-Integration c).After-push in (
+    let p = pushed (goal.at.returns-else-takes_mirrors c).After-push in (
       stay-pushed (length k) c.args.owner k m c.push.new.self p,
-      row-alone (plan_number c.args.plan) (length k) c.args.owner k m c.push.new.self
-          (⊎_elim (λ e. omega (arith, ap plan_number e)) (λ e. omega (arith, ap plan_number e)) c.in-Integration.is) p
+      row-alone (plan_number c.args.plan) (length k) c.args.owner k m c.push.new.self (sym c.takes_mirrors.ensures ∙ c.if-takes_mirrors.false) p
           (mirroring-first (length k) c.args.owner k m c.push.new.self c.requires.small_row.0 refl c.requires.small_row.1 (omega (arith, c.requires.few)) p),
     )
 
-pub returns-in-A : goal.returns-in-A
-returns-in-A c =
+pub returns-then-takes_mirrors : goal.returns-then-takes_mirrors
+returns-then-takes_mirrors c =
     let k = c.args.row.now in
     let m = c.args.self.now in
     let made = c.add_signs in (
       stay_then (length k) m.count m c.push.new.self made.new.self
-          (stay-pushed (length k) c.args.owner k m c.push.new.self (pushed (goal.at.returns-in-A c).After-push)) made.ensures.members_stay,
-      row-mirrors (plan_number c.args.plan) (length k) m.count c.args.owner k made.new.self
-          (⊎_elim (λ e. omega (arith, ap plan_number e))
-          (λ e. ⊎_elim (λ f. omega (arith, ap plan_number f)) (λ f. omega (arith, ap plan_number f)) e) c.in-A.is) made.ensures.mirroring,
+          (stay-pushed (length k) c.args.owner k m c.push.new.self (pushed (goal.at.returns-then-takes_mirrors c).After-push)) made.ensures.members_stay,
+      row-mirrors (plan_number c.args.plan) (length k) m.count c.args.owner k made.new.self (sym c.takes_mirrors.ensures ∙ c.if-takes_mirrors.true) made.ensures.mirroring,
     )

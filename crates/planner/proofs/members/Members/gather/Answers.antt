@@ -1,9 +1,10 @@
 -- `members::Members::gather`: the members of the rows passed are gathered; a turn adds those of the next row (`gathering-next`).
 use Rattle.std.proofs.Common.{rules, arith, sym, subst, ℕ, length}
+use Rattle.std.proofs.lemmas.List.{length_push}
 use Rattle.rank1.specs.Index.{rows_of}
 use Rattle.rank1.specs.Named.{plan_number}
 use Rattle.planner.specs.Members.{Gathering, MembersStay, RowMembers}
-use Rattle.planner.proofs.RowLaws.{Comes, next-number, no-number, one-more}
+use Rattle.planner.proofs.RowLaws.{Comes, next-number, no-number}
 use Rattle.planner.proofs.members.MemberLaws.{row_small, gathering-next}
 use Rattle.planner.proofs.members.Members.gather.Goals as goal
 use Rattle.planner.proofs.members.Members.gather.Goals.{In-Some}
@@ -12,20 +13,20 @@ use Rattle.planner.proofs.members.Members.gather.Goals.{In-Some}
 next : (c : In-Some) → Comes c.args.rows.now.d c.args.rows.now.numbers.now (length c.loop-i.yielded) c.in-Some.i c.in-Some.row.now
 next c =
     let rows = c.args.rows.now in
-    next-number rows.d rows.numbers.now _ c.requires.0.some_axes (search rules) (search rules) (search rules) c.loop-i.yielded _ c.loop-i.yielded_by _ _ _ _ c.in-Some.is c.next.ensures.steps
+    next-number rows.d rows.numbers.now _ rows.valid.some_axes (search rules) (search rules) (search rules) c.loop-i.yielded _ c.loop-i.yielded_by _ _ _ _ c.in-Some.is c.next.ensures.steps
 
 pub overflow_cast-i : goal.overflow_cast-i
 overflow_cast-i c =
     let here = next (goal.at.overflow_cast-i c).In-Some in
-    record { fits = omega (arith, here.among, c.requires.0.few_rows) }
+    record { fits = omega (arith, here.among, c.args.rows.now.valid.few_rows) }
 
 pub add_mirrors-requires-clause-small_row : goal.add_mirrors-requires-clause-small_row
 add_mirrors-requires-clause-small_row c =
     let rows = c.args.rows.now in
     let here = next (goal.at.add_mirrors-requires-clause-small_row c).In-Some in (
-      omega (arith, here.size, c.requires.0.few_axes),
-      row_small rows.d c.in-Some.i rows.numbers.now c.in-Some.row.now c.requires.0.small here.is here.size,
-      omega (arith, here.size, c.requires.1),
+      omega (arith, here.size, rows.valid.few_axes),
+      row_small rows.d c.in-Some.i rows.numbers.now c.in-Some.row.now rows.valid.small here.is here.size,
+      omega (arith, here.size, c.requires),
     )
 
 pub loop-i-preserved : goal.loop-i-preserved
@@ -36,15 +37,15 @@ loop-i-preserved c =
     let k = c.in-Some.row.now in
     let made = c.add_mirrors.new.self in
     let here = next (goal.at.loop-i-preserved c).In-Some in
-    subst (λ (i : ℕ). Gathering plan rows.d (rows_of rows.d i rows.numbers.now) made) (omega (arith, here.number, one-more l.yielded (c.in-Some.i, c.in-Some.row)))
-    (gathering-next plan rows.d c.in-Some.i rows.numbers.now k l.self made here.is
-    (subst (λ (i : ℕ). Gathering plan rows.d (rows_of rows.d i rows.numbers.now) l.self) (sym here.number) l.invariant)
-    (subst (λ (n : ℕ). MembersStay n l.self.count l.self made) here.size c.add_mirrors.ensures.0)
-    (subst (λ (n : ℕ). RowMembers plan n l.self.count c.in-Some.i k made) here.size c.add_mirrors.ensures.1))
+    subst (λ (i : ℕ). Gathering plan rows.d (rows_of rows.d i rows.numbers.now) made) (omega (arith, here.number, length_push l.yielded (c.in-Some.i, c.in-Some.row)))
+    (gathering-next plan rows.d c.in-Some.i rows.numbers.now k l.members made here.is
+    (subst (λ (i : ℕ). Gathering plan rows.d (rows_of rows.d i rows.numbers.now) l.members) (sym here.number) l.invariant)
+    (subst (λ (n : ℕ). MembersStay n l.members.count l.members made) here.size c.add_mirrors.ensures.0)
+    (subst (λ (n : ℕ). RowMembers plan n l.members.count c.in-Some.i k made) here.size c.add_mirrors.ensures.1))
 
 pub returns : goal.returns
 returns c =
     let rows = c.args.rows.now in
     let all =
-    no-number rows.d rows.numbers.now _ c.requires.0.some_axes (search rules) (search rules) (search rules) c.loop-i.yielded _ c.loop-i.yielded_by _ _ c.in-None.is c.next.ensures.steps in
-    subst (λ (m : ℕ). Gathering (plan_number rows.plan) rows.d (rows_of rows.d m rows.numbers.now) c.loop-i.self) all c.loop-i.invariant
+    no-number rows.d rows.numbers.now _ rows.valid.some_axes (search rules) (search rules) (search rules) c.loop-i.yielded _ c.loop-i.yielded_by _ _ c.in-None.is c.next.ensures.steps in
+    subst (λ (m : ℕ). Gathering (plan_number rows.plan) rows.d (rows_of rows.d m rows.numbers.now) c.loop-i.members) all c.loop-i.invariant

@@ -14,19 +14,21 @@ use Rattle.planner.proofs.search.SearchSteps.{passed-anew, passed-same, ended, w
 use Rattle.planner.proofs.search.Search.+complete.Goals as goal
 use Rattle.planner.proofs.search.Search.+complete.Goals.{else-try_component-via-then-try_component+else-complete, else-try_component-via-else-try_component}
 
-pub keeps_rule-requires-clause-ready : goal.keeps_rule-requires-clause-ready
-keeps_rule-requires-clause-ready t c =
+pub invariant_of-lattice : goal.invariant_of-lattice
+invariant_of-lattice t c =
     let a = c.args in
     let w = a.work.now in
-    list-ready a.self.now a.z.now w.products c.requires.fixed.tabled.listed
-    (subst (λ (k : ℕ). Prefixed a.self.now k a.z.now w.products) c.if-at-self.true c.requires.fixed.prefix) (omega arith)
+    record {
+      ready = list-ready a.self.now a.z.now w.products c.requires.fixed.tabled.listed
+          (subst (λ (k : ℕ). Prefixed a.self.now k a.z.now w.products) c.if-at-self.true c.requires.fixed.prefix) (omega arith);
+    }
 
 pub returns-then-at-self-clause-completed : goal.returns-then-at-self-clause-completed
 returns-then-at-self-clause-completed t c =
     let s = c.args.self.now in
     let z = c.args.z.now in
     subst (λ (k : ℕ). CompletedOf s k z z c.keeps_rule.result) (sym c.if-at-self.true)
-    (whole s z c.keeps_rule.result c.requires.fixed.prefix.size (λ j l. c.requires.fixed.below j (omega arith)) c.keeps_rule.ensures.decided)
+    (whole s z c.keeps_rule.result c.requires.fixed.prefix.size (λ j l. c.requires.fixed.below j (omega arith)) c.keeps_rule.ensures)
 
 pub sieve_at-requires : goal.sieve_at-requires
 sieve_at-requires t c =
@@ -41,7 +43,7 @@ returns-in_default-clause-completed t c =
     ended a.self.now a.at a.z.now w
     (marked a.self.now a.at a.z.now a.work.now c.requires (omega arith) w c.sieve_at.ensures) (omega arith)
     w a.z.now w end.result end.result end.ensures (omega arith)
-    (passed_first a.self.now a.at a.z.now a.work.now c.requires (omega arith) w c.sieve_at.ensures c.lowest-low.result end.result
+    (passed_first a.self.now a.at a.z.now a.work.now c.requires (omega arith) w c.sieve_at.ensures c.lowest-low.result end.result _ (omega (arith, end.ensures.low))
     c.lowest-low.ensures c.in_default.ensures)
     a.z.now
 
@@ -59,7 +61,7 @@ loop-v-init t c =
     let w = c.sieve_at.new.work in
     let first = c.in-Some.first in
     passed-anew a.self.now a.at first a.z.now w a.z.now w c.add_sums.new.work
-    (passed_first a.self.now a.at a.z.now a.work.now c.requires (omega arith) w c.sieve_at.ensures c.lowest-low.result first
+    (passed_first a.self.now a.at a.z.now a.work.now c.requires (omega arith) w c.sieve_at.ensures c.lowest-low.result first _ (omega (arith, c.value_end-end.ensures.low, c.in-Some.ensures.1))
     c.lowest-low.ensures c.in-Some.ensures.2)
 
 pub try_component-requires : goal.try_component-requires

@@ -36,8 +36,11 @@ returns-then-cannot_lead c =
       kept_products = λ i l. refl;
       prefix = λ e. absurd (false≢true e);
       none = λ _.
-          lead_passed (rule_of a.self.now.task.rows) (plan_scales (plan_number a.self.now.task.rows.plan) (rows_in a.self.now.task.rows)) a.self.now a.at a.v (set a.z.now a.at a.v) c.requires.prefix.modulus.low c.requires.listed.list.some_axes
-          (c.cannot_lead.ensures c.if-cannot_lead.true) (get_or-set_same a.z.now a.at a.v 0 (omega (arith, c.requires.prefix.size, c.requires.within)));
+          let s = a.self.now in
+          let rows = s.task.rows in
+          let cannot = c.cannot_lead.ensures c.if-cannot_lead.true in
+          lead_passed (rule_of rows) (plan_scales (plan_number rows.plan) (rows_in rows)) rows.d s.n s.values a.at a.v (set a.z.now a.at a.v) c.requires.prefix.modulus.low
+          rows.valid.some_axes cannot.first cannot.all_values cannot.fails (get_or-set_same a.z.now a.at a.v 0 (omega (arith, c.requires.prefix.size, c.requires.within)));
       tested = λ unsieved e. absurd (false≢true e);
     }
 
@@ -55,7 +58,7 @@ returns c =
     let e : w'.products ≡ axis.new.products = ap (λ (x : Work). x.products) ends.ensures.only in
     record {
       stored = refl;
-      only = ends.ensures.only ∙ ap (λ (p : List ℕ). record a.work.now { products = p; owners = w'.owners }) (sym e);
+      only = ends.ensures.only ∙ ap (λ (p : List ℕ). record a.work.now { products = p; owners = w'.owners; taken = w'.taken }) (sym e);
       kept_products = λ i l. ap (λ (x : List ℕ). get_or x i 0) e ∙ axis.ensures.kept i l;
       prefix = λ _.
           subst (Prefixed a.self.now (a.at + 1) z') (sym e) (next_prefix (goal.at.returns c).Start axis.new.products axis.ensures);

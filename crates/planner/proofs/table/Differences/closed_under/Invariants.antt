@@ -8,4 +8,4 @@ use Rattle.planner.specs.Table.{rows_found}
 use Rattle.planner.proofs.table.Differences.closed_under.Given as goal
 
 abbrev pub invariant-loop-row : goal.invariant-loop-row
-invariant-loop-row l = (k : ℕ) → k < length l.yielded → Has (rows_found l.d l.self) (flip l.j (row_at l.d l.self.rows k))
+invariant-loop-row l = (k : ℕ) → k < length l.yielded → Has (rows_found l.self) (flip l.j (row_at l.self.d l.self.rows k))

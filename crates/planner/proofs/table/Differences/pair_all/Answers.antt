@@ -1,6 +1,6 @@
--- `Differences::pair_all`: the pairs by plan (`grown-zeros`), of members that can be paired (`listed-members`).
+-- `Differences::pair_all`: the pairs by plan (`grown-zeros`, `grown-behind`), of rows and members that can be paired (`listed-rows`,
+-- `listed-members`).
 use mathlib.Core.Path.{◌≡◌, sym, ap, subst}
-use mathlib.Core.Bool.{false, false≢true}
 use mathlib.Core.Logic.{◌⊎◌, inl, inr, ⊎_elim}
 use mathlib.Core.List.{List}
 use Prim.Native.Nat.{ℕ, ◌*◌}
@@ -11,61 +11,53 @@ use Rattle.rank1.specs.declared.Plan.{Plan}
 use Rattle.rank1.specs.declared.Plan.TheVariants as plans
 use Rattle.rank1.specs.Named.{plan_number}
 use Rattle.planner.specs.Sizes.{axes, most_members}
-use Rattle.planner.specs.Table.{Turns, MetPairs, Grown, RowRun, Pairable, rows_found}
-use Rattle.planner.proofs.differences.PlanLaws.{front_zeros, run-zeros, one_zeros, run_alone, listed-members, grown-zeros, grown-alone}
-use Rattle.planner.proofs.RowLaws.{rows_alone}
-use Rattle.rank1.specs.Index.{zero_row, row_count}
+use Rattle.planner.specs.Table.{RowPairs, GrownTo, RowRun, Pairable}
+use Rattle.planner.proofs.differences.PlanLaws.{front_zeros, run-zeros, listed-rows, listed-members, grown-zeros, grown-behind}
+use Rattle.rank1.specs.Index.{row_count}
 use Rattle.planner.proofs.table.Differences.pair_all.Goals as goal
 use Rattle.planner.proofs.table.Differences.pair_all.Goals.{Start}
 
--- what a call asks of the members
-pairable : (s : Start) → Pairable s.args.rows.now.d s.args.members.now
+-- the members are rows as long as the table's
+pairable : (s : Start) → Pairable s.args.self.now.d s.args.level s.args.members.now
 pairable s =
     let rows = s.args.rows.now in
     let members = s.args.members.now in
     let long : length members.rows ≡ most_members * axes = omega arith in
-    listed-members (plan_number rows.plan) rows.d rows.numbers.now members s.requires.valid_rows.0 s.requires.valid_rows.1 long
+    subst (λ (d : ℕ). Pairable d s.args.level members) (sym s.requires.axes.0)
+    (listed-members (plan_number rows.plan) rows.d rows.numbers.now members rows.valid s.requires.members s.args.level long s.requires.axes.1)
 
-pub pair_each-requires-clause-row_run : goal.pair_each-requires-clause-row_run
-pair_each-requires-clause-row_run c =
-    let v = c.requires.valid_rows.0 in
-    let d = c.args.rows.now.d in (
-      subst (λ (zs : List ℤ). RowRun d (row_count d zs) zs) (sym (front_zeros d axes v.few_axes)) (subst (λ (k : ℕ). RowRun d k (zero_row d)) (sym (one_zeros d v.some_axes)) (run-zeros d)),
-      λ e. absurd (false≢true e),
-    )
+pub pair_rows-requires-clause-rows : goal.pair_rows-requires-clause-rows
+pair_rows-requires-clause-rows c =
+    let t = c.args.self.now in
+    subst (λ (zs : List ℤ). RowRun t.d (row_count t.d zs) zs) (sym (front_zeros t.d axes t.few_axes)) (run-zeros t.d t.some_axes)
 
-pub pair_each-requires-clause-pairable : goal.pair_each-requires-clause-pairable
-pair_each-requires-clause-pairable c = (pairable (goal.at.pair_each-requires-clause-pairable c).Start, c.requires.stored)
+pub pair_rows-requires-clause-members : goal.pair_rows-requires-clause-members
+pair_rows-requires-clause-members c = pairable (goal.at.pair_rows-requires-clause-members c).Start
 
-pub pair_each-requires-in-Fourier-clause-row_run : goal.pair_each-requires-in-Fourier-clause-row_run
-pair_each-requires-in-Fourier-clause-row_run c =
-    let p = pairable (goal.at.pair_each-requires-in-Fourier-clause-row_run c).Start in
-    let members = c.args.members.now in
-    (run_alone c.args.rows.now.d members.count members.rows p.some_axes p.run, λ e. omega (arith, (rows_alone c.args.rows.now.d members.count members.rows p.some_axes p.run.inside).0))
+pub pair_behind-requires-clause-rows : goal.pair_behind-requires-clause-rows
+pair_behind-requires-clause-rows c = (pairable (goal.at.pair_behind-requires-clause-rows c).Start).run
 
-pub pair_each-requires-in-Fourier-clause-pairable : goal.pair_each-requires-in-Fourier-clause-pairable
-pair_each-requires-in-Fourier-clause-pairable c =
-    (pairable (goal.at.pair_each-requires-in-Fourier-clause-pairable c).Start, c.requires.stored)
+pub pair_behind-requires-clause-members : goal.pair_behind-requires-clause-members
+pair_behind-requires-clause-members c = pairable (goal.at.pair_behind-requires-clause-members c).Start
 
-pub pair_each-requires-in-B-clause-pairable : goal.pair_each-requires-in-B-clause-pairable
-pair_each-requires-in-B-clause-pairable c = (pairable (goal.at.pair_each-requires-in-B-clause-pairable c).Start, c.requires.stored)
+pub pair_rows-requires-in-B-clause-rows : goal.pair_rows-requires-in-B-clause-rows
+pair_rows-requires-in-B-clause-rows c =
+    let rows = c.args.rows.now in
+    subst (λ (d : ℕ). RowRun d (row_count d rows.numbers.now) rows.numbers.now) (sym c.requires.axes.0)
+    (listed-rows (plan_number rows.plan) rows.d rows.numbers.now rows.valid)
+
+pub pair_rows-requires-in-B-clause-members : goal.pair_rows-requires-in-B-clause-members
+pair_rows-requires-in-B-clause-members c = pairable (goal.at.pair_rows-requires-in-B-clause-members c).Start
 
 pub returns-in-Integration : goal.returns-in-Integration
 returns-in-Integration c =
     let rows = c.args.rows.now in
     let members = c.args.members.now in
     let t = c.args.self.now in
-    let p = c.pair_each in
-    let t' = p.new.self in
-    let D = rows_found rows.d t in
-    let D' = rows_found rows.d t' in
-    record {
-      stored = p.ensures.stored;
-      grown = grown-zeros (plan_number rows.plan) rows.d rows.numbers.now members D D' t.whole t'.whole (ap plan_number c.in-Integration.is)
-          (subst (λ (k : ℕ). Grown (Turns 0 k (MetPairs (plan_number rows.plan) rows.d false (zero_row rows.d) members)) D D' t.whole t'.whole) (one_zeros rows.d c.requires.valid_rows.0.some_axes)
-          (subst (λ (zs : List ℤ). Grown (Turns 0 (row_count rows.d zs) (MetPairs (plan_number rows.plan) rows.d false zs members)) D D' t.whole t'.whole)
-          (front_zeros rows.d axes c.requires.valid_rows.0.few_axes) p.ensures.grown));
-    }
+    let p = c.pair_rows in
+    let plan = plan_number rows.plan in
+    grown-zeros t.d rows.numbers.now members t p.new.self plan (ap plan_number c.in-Integration.is)
+    (subst (λ (zs : List ℤ). GrownTo (RowPairs plan t.d zs members) t p.new.self) (front_zeros t.d axes t.few_axes) p.ensures)
 
 -- the two plans by their numbers
 named : (p : Plan) → p ≡ plans.Fourier ⊎ p ≡ plans.A → plan_number p ≡ 1 ⊎ plan_number p ≡ 2
@@ -74,13 +66,6 @@ named p is = ⊎_elim (λ e. inl (ap plan_number e)) (λ e. inr (ap plan_number 
 pub returns-in-Fourier : goal.returns-in-Fourier
 returns-in-Fourier c =
     let rows = c.args.rows.now in
-    let members = c.args.members.now in
-    let t = c.args.self.now in
-    let g = c.pair_each-in-Fourier in
-    let t' = g.new.self in
-    let p = pairable (goal.at.returns-in-Fourier c).Start in
-    record {
-      stored = g.ensures.stored;
-      grown = grown-alone (plan_number rows.plan) rows.d rows.numbers.now members (rows_found rows.d t) (rows_found rows.d t') t.whole t'.whole p.some_axes p.run
-          (named rows.plan c.in-Fourier.is) g.ensures.grown;
-    }
+    let p = c.pair_behind in
+    grown-behind c.args.self.now.d rows.numbers.now c.args.members.now c.args.self.now p.new.self (plan_number rows.plan)
+    (named rows.plan c.in-Fourier.is) p.ensures

@@ -39,10 +39,10 @@ within from k d xs ys f e b l =
 
 -- what `find` gave, where P x says at least that x is such a slot
 probed :
-    (n : ℕ) (h : List ℤ) (t : Differences) (r : Option ℕ) (N : Type 0) (P : ℕ → Type 0)
-    → MatchOption r N P → ((x : ℕ) → P x → Probed n h t (Some x)) → Probed n h t r
-probed n h t None N P m g = tt
-probed n h t (Some x) N P m g = g x m
+    (h : List ℤ) (t : Differences) (r : Option ℕ) (N : Type 0) (P : ℕ → Type 0)
+    → MatchOption r N P → ((x : ℕ) → P x → Probed h t (Some x)) → Probed h t r
+probed h t None N P m g = tt
+probed h t (Some x) N P m g = g x m
 
 pub find-requires-clause-callable : goal.find-requires-clause-callable
 find-requires-clause-callable c =
@@ -56,5 +56,5 @@ returns c =
     let from = c.hash-from.result in
     let road = YieldsList-from_chain (YieldsList-from_range from slot_count _ c.chain.ensures.first refl) (YieldsList-from_range 0 from _ c.chain.ensures.second refl)
     c.chain.ensures.first_done c.chain.ensures.second_done in
-    probed (length c.args.h.now) c.args.h.now c.args.self.now c.find.result _ _ (first_from_find c.find.new.self _ c.find.result (λ x. Probed (length c.args.h.now) c.args.h.now c.args.self.now (Some x)) (λ x. Unit {0}) c.find.ensures.ran road
+    probed c.args.h.now c.args.self.now c.find.result _ _ (first_from_find c.find.new.self _ c.find.result (λ x. Probed c.args.h.now c.args.self.now (Some x)) (λ x. Unit {0}) c.find.ensures.ran road
     (λ x q k. search (rules, tests)) (λ x q k. (search rules, tt))) (λ x p. p.0)
