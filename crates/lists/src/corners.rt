@@ -51,7 +51,9 @@ fn next(corners: &[i16], row: &mut [i16]) -> bool
 }
 
 // Writes the rows up to some of the corners, in order, and answers how many they are; or that there are more than 512.
-// kept: a row is told its place, `i * d`: a proof knows no element that is written through `chunks_exact_mut`.
+// kept: a row is told its place, `i * d`: a proof knows no element that is written through `chunks_exact_mut`. The places are lent and the count is
+// the answer: a `Vec` asks for the heap, and the kit's arrayvec would be one more library that the gate takes as built
+// (docs/DECISIONS.md, "No heap").
 pub(crate) fn fill(d: usize, corners: &[i16], rows: &mut [i16; ROW_ROOM]) -> Option<usize>
     requires { ValidCorners d corners.now }
     ensures { Filled d (index_list d corners.now) rows.new result }

@@ -1,5 +1,5 @@
 // A list counted row by row.
-// kept: d and the rows stand apart, as in the public call that counts them: a struct of the two would be made for it alone.
+// kept: d and the rows stand apart, as in the two public calls that count them: each would make a struct of the two for one call.
 
 ghost use Rattle.std.specs.Prelude.{◌≡◌, ◌≤◌, length};
 ghost use Rattle.rank1.specs.Index.{index_list};

@@ -105,7 +105,7 @@ pub fn corner_list(d: usize, corners: &[i16], out: &mut [i16]) -> Result<usize, 
     if m < 1 || MOST_CORNERS < m {
         return Err(Refusal::Corners);
     }
-    // kept: places and a count: a `Vec` asks for the heap, and C gets the count.
+    // kept: places and a count, for the reason at `corners::fill`.
     let mut rows = [0i16; ROW_ROOM];
     let count = corners::fill(d, corners, &mut rows).ok_or(Refusal::Corners)?;
     refusal::check_places(out.len(), MOST_ROWS * d)?;

@@ -1,6 +1,7 @@
 // Whether a list is lower (document 02, c): it is just where no component is negative and, with a row, each row that has one component
 // one lower is in too.
-// kept: the row, its list and j go through two functions: a struct of them would be made anew for each component, and opened at once.
+// kept: the row and its list go through three functions, j through two, and each asks that the row has at most six axes, for the six places that it
+// is copied to: a struct of them would be made anew for each row, and opened at once.
 
 ghost use Rattle.std.specs.Prelude.{◌≡◌, ◌≤◌, ◌<◌, pos, get_or, length, set};
 ghost use Rattle.rank1.specs.Tests.{any, same_row, Decides};

@@ -6,13 +6,11 @@ use mathlib.Core.List.{List, ◌++◌}
 use Prim.Native.Nat.{ℕ, zero, suc, ◌≤◌}
 use native.Mathlib.Omega.{arith}
 use lib.IntN.{ℤ, pos}
-use lib.ListN.{get_or-eq_default}
-use Rattle.rank1.specs.Index.{row_count}
+use lib.ListN.{length, get_or-eq_default}
 use Rattle.rank1.specs.Named.{plan_number}
 use Rattle.rank1.specs.Search.{InRange}
 use Rattle.rank1.specs.Valid.{ValidList, ValidModulus, ValidCall}
 use Rattle.rank1.specs.Refusal.{first_of, bad_plan, bad_map_plan, list_conditions, pair_conditions, table_conditions, check_refusal}
-use Rattle.rank1.proofs.IndexLaws.{member_length}
 use Rattle.rank1.proofs.RefusalLaws.{first_of_none, first_of_none_append}
 use Rattle.rank1.proofs.ValidLaws.{plan_clear, map_plan_clear, valid_list, valid_pair}
 use Rattle.planner.specs.Answer.{written, Answered}
@@ -21,6 +19,7 @@ use Rattle.planner.specs.declared.lattice.Lattice.{Lattice}
 use Rattle.planner.specs.Lists.{Given}
 use Rattle.planner.specs.Sizes.{largest_component}
 use Rattle.planner.specs.Inner.{Products, Covered, Ready}
+use Rattle.planner.proofs.RowLaws.{row_long}
 use Rattle.planner.proofs.products.ProductLaws.{prepared_up_to}
 
 -- ---- valid arguments
@@ -47,19 +46,16 @@ module _ (plan d : ℕ) (xs : List ℤ) (n : ℕ) (z : List ℕ) where
       let parts = (first_of_none (bad_map_plan plan) (list_conditions plan d xs ++ pair_conditions d n z)).0 none in
       valid_rest ((map_plan_clear plan).0 parts.0).0 parts.1
 
-  -- ---- the whole vector: no row has a component past it
-  pub ready_whole : (top : ℕ) (table : List ℕ) → ValidList plan d xs → ValidModulus n × InRange n d z → Covered top xs → Products n z top table → Ready d xs n z table
-  ready_whole top table list pair covers products = record {
-    modulus = pair.0;
-    some_axes = list.some_axes;
-    few_axes = list.few_axes;
-    whole = list.whole;
-    few_rows = list.few_rows;
-    different = list.different;
-    short = omega (arith, pair.1.size);
-    ended = λ k m j l. get_or-eq_default k (pos 0) (omega (arith, pair.1.size, member_length d (row_count d xs) xs k (omega (arith, list.whole)) m));
-    prepared = prepared_up_to n top z xs table covers products;
-  }
+-- ---- the whole vector: no row has a component past it
+pub ready_whole :
+    (rows : Rows) {n top : ℕ} {z table : List ℕ} → ValidModulus n → length z ≡ rows.d → Covered top rows.numbers.now → Products n z top table
+    → Ready rows.d rows.numbers.now n z table
+ready_whole rows {n} {top} {z} {table} modulus size covers products = record {
+  modulus = modulus;
+  short = omega (arith, size);
+  ended = λ k m j l. get_or-eq_default k (pos 0) (omega (arith, size, row_long rows k m));
+  prepared = prepared_up_to n top z rows.numbers.now table covers products;
+}
 
 -- ---- the rows that a call was given: what is so of them is so of the arguments
 pub of_given : {plan d : ℕ} {xs : List ℤ} {rows : Rows} (P : ℕ → ℕ → List ℤ → Type 0) → Given plan d xs rows → P (plan_number rows.plan) rows.d rows.numbers.now → P plan d xs

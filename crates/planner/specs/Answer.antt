@@ -21,7 +21,7 @@ use Rattle.rank1.specs.Refusal.{check_refusal, map_refusal, spread_refusal, gath
 unfoldable pub CheckCall : ℕ → ℕ → List ℤ → ℕ → List ℕ → Result Bool Refusal → Type 0
 CheckCall plan d xs n z answer = Answers (check_refusal plan d xs n z) (admissible plan (index_list d xs) n (map pos z)) answer
 
--- ---- calls that answer with the number of the refusal, 0 for none
+-- ---- calls that answer `()` or a refusal: what is spoken of is the number of the refusal (`refused`), 0 for none
 -- what a lent place holds after a call: the result, or where the call was refused what it held before
 abbrev pub written : {A : Type 0} → ℕ → List A → List A → List A
 written zero result before = result

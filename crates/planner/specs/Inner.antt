@@ -4,12 +4,12 @@ use mathlib.Core.List.{List, [], map, Memᴰ}
 use Rattle.std.specs.Int.Signed.{quot_z}
 use Rattle.rank1.specs.Tests.{count}
 use Rattle.rank1.specs.Residue.{residue, residue_at}
-use Rattle.rank1.specs.Index.{row_count, index_list}
+use Rattle.rank1.specs.Index.{index_list}
 use Rattle.rank1.specs.Rule.{Reconstructs}
 use Rattle.rank1.specs.Sums.{in32, copies}
-use Rattle.rank1.specs.Valid.{Distinct, ValidModulus}
+use Rattle.rank1.specs.Valid.{ValidModulus}
 use Rattle.rank1.specs.Axes.{ZeroFrom}
-use Rattle.planner.specs.Sizes.{axes, most_rows, most_mirrors, largest_size, middle, places, product_room}
+use Rattle.planner.specs.Sizes.{axes, most_mirrors, largest_size, middle, places, product_room}
 
 -- ---- product tables: so many places for each axis, one for each component of a row or of a difference
 -- where the product of a component stands among the places of its axis
@@ -37,8 +37,8 @@ pub record Covered (top : ℕ) (xs : List ℤ) : Type 0 where
   pub narrow : top ≤ largest_size
   pub covered : (i : ℕ) → nat_abs (get_or xs i (pos 0)) ≤ top
 
--- no component in xs is larger than the largest; the table has, for each component of z, the residues of its products with the numbers that are no
--- larger, by size, than some component in xs
+-- no component in xs is larger, by size, than `largest_size`; the table has, for each component of z, the residues of its products with the numbers
+-- that are no larger, by size, than some component in xs
 pub record Prepared (n : ℕ) (z : List ℕ) (xs : List ℤ) (table : List ℕ) : Type 0 where
   pub covers : Covered largest_size xs
   pub entry :
@@ -58,14 +58,9 @@ pub record RowReady (n : ℕ) (z : List ℕ) (k : List ℤ) (table : List ℕ) :
   pub ended : ZeroFrom (length z) k
   pub prepared : Prepared n z k table
 
--- the same for all rows of a list, which are different
+-- what the residues of the mirrors of all rows of a list ask, besides that the list is valid
 pub record Ready (d : ℕ) (xs : List ℤ) (n : ℕ) (z table : List ℕ) : Type 0 where
   pub modulus : ValidModulus n
-  pub some_axes : 1 ≤ d
-  pub few_axes : d ≤ axes
-  pub whole : length xs ≡ row_count d xs * d
-  pub few_rows : row_count d xs ≤ most_rows
-  pub different : Distinct (index_list d xs)
   pub short : length z ≤ d
   pub ended : (k : List ℤ) → Memᴰ k (index_list d xs) → ZeroFrom (length z) k
   pub prepared : Prepared n z xs table

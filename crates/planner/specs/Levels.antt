@@ -1,6 +1,6 @@
 -- The levels of a list: for each axis j the rows that are 0 from j on, in places of their own, and how many numbers they are. Nothing
 -- here is in a public contract.
-use Rattle.std.specs.Prelude.{◌≡◌, Bool, cond, List, [], ◌∷◌, ℕ, ◌*◌, ◌<◌, ◌≤◌, ℤ, pos, length, get_or, take, drop}
+use Rattle.std.specs.Prelude.{◌≡◌, Bool, cond, List, [], ◌∷◌, ℕ, suc, ◌*◌, ◌<◌, ◌≤◌, ℤ, pos, length, get_or, take, drop}
 use Rattle.rank1.specs.Tests.{every, same_number}
 use Rattle.rank1.specs.Index.{row_count, index_list}
 use Rattle.planner.specs.Sizes.{level_room}
@@ -38,7 +38,5 @@ pub record LevelsTo (d top j : ℕ) (xs levels : List ℤ) (sizes : List ℕ) : 
   pub level : (i : ℕ) → i < j → RunOf d (ending i (index_list d xs)) (level_run levels sizes i)
 
 -- all of them
-pub record Levels (d top : ℕ) (xs levels : List ℤ) (sizes : List ℕ) : Type 0 where
-  pub covers : Covered top levels
-  pub few : (j : ℕ) → j ≤ d → get_or sizes j 0 ≤ level_room
-  pub level : (j : ℕ) → j ≤ d → RunOf d (ending j (index_list d xs)) (level_run levels sizes j)
+abbrev pub Levels : ℕ → ℕ → List ℤ → List ℤ → List ℕ → Type 0
+Levels d top xs levels sizes = LevelsTo d top (suc d) xs levels sizes

@@ -16,7 +16,6 @@ members_of d m = rows_of d m.count m.rows
 -- ---- what the table holds
 -- each member is a mirror of its owner, a row of the list
 pub record Kin (plan d : ℕ) (ks : List (List ℤ)) (m : Members) : Type 0 where
-  pub few : m.count ≤ most_members
   pub few_axes : d ≤ axes
   pub kin :
       (e : ℕ) → e < m.count
@@ -87,7 +86,6 @@ pub record Mirroring (d a from owner : ℕ) (k : List ℤ) (m : Members) : Type 
   pub few_axes : d ≤ axes
   pub size : length k ≡ d
   pub small : SmallRow k
-  pub few : m.count ≤ most_members
   pub within : from ≤ m.count
   pub owned : (e : ℕ) → from ≤ e → e < m.count → get_or m.owners e 0 ≡ owner
   pub kin : (s : List ℤ) → Memᴰ s (members_from d from m) → Memᴰ s (mirrors k)
@@ -97,7 +95,6 @@ pub record Mirroring (d a from owner : ℕ) (k : List ℤ) (m : Members) : Type 
 -- are all there
 pub record RowMembers (plan d from owner : ℕ) (k : List ℤ) (m : Members) : Type 0 where
   pub few_axes : d ≤ axes
-  pub few : m.count ≤ most_members
   pub within : from ≤ m.count
   pub owned : (e : ℕ) → from ≤ e → e < m.count → get_or m.owners e 0 ≡ owner
   pub kin : (s : List ℤ) → Memᴰ s (members_from d from m) → Memᴰ s (mirrors_under plan k)

@@ -4,11 +4,12 @@
 use Rattle.std.specs.Prelude.{◌≡◌, ◌⊎◌, Bool, true, false, Option, Some, None, List, ℕ, suc, ◌+◌, ◌*◌, ◌%◌, ◌<◌, ◌≤◌, ℤ, pos, nat_abs, length, get_or, drop}
 use Rattle.rank1.specs.Valid.{ValidModulus}
 use Rattle.planner.specs.Inner.{place, KeptBelow, Covered}
+use Rattle.planner.specs.declared.sieve.Prefix.{Prefix}
 use Rattle.planner.specs.declared.sieve.Run.{Run}
 use Rattle.planner.specs.declared.tables.ListTables.{ListTables}
 use Rattle.planner.specs.declared.tables.ModulusTables.{ModulusTables}
-use Rattle.planner.specs.Runs.{Bounds}
-use Rattle.planner.specs.Sizes.{axes, largest_modulus, largest_size, places, product_room, room, lasts, solution_room}
+use Rattle.planner.specs.declared.tables.Solved.{Solved}
+use Rattle.planner.specs.Sizes.{axes, largest_modulus, largest_size, places, room, lasts, solution_room}
 
 -- ---- marks and solutions
 -- place v is marked
@@ -49,17 +50,14 @@ pub record SolutionsSet (n t r : ℕ) (solutions : List ℕ) : Type 0 where
   pub few : r ≤ n
   pub period : (t * r) % n ≡ 0
 
--- those of t stand from place `start` on
-pub record TableAt (n t start step : ℕ) (solutions : List ℕ) : Type 0 where
-  pub inside : start + n ≤ length solutions
-  pub right : SolutionsSet n t step (drop start solutions)
+-- those of t stand from the start of s on, with its step
+pub record TableAt (n t : ℕ) (s : Solved) (solutions : List ℕ) : Type 0 where
+  pub inside : s.start + n ≤ length solutions
+  pub right : SolutionsSet n t s.step (drop s.start solutions)
 
--- the tables of solutions of n: last component t has one where it has a step
-pub record SolutionsOf (n : ℕ) (M : ModulusTables) : Type 0 where
-  pub wide : length M.solutions ≡ solution_room
-  pub starts_size : length M.starts ≡ lasts
-  pub steps-size : length M.steps ≡ lasts
-  pub tables : (t step : ℕ) → t < lasts → get_or M.steps t None ≡ Some step → TableAt n t (get_or M.starts t 0) step M.solutions
+-- the tables of solutions of n: last component t has one where it is solved
+abbrev pub SolutionsOf : ℕ → ModulusTables → Type 0
+SolutionsOf n M = (t : ℕ) (s : Solved) → t < lasts → get_or M.solved t None ≡ Some s → TableAt n t s M.solutions
 
 -- what setting the tables asks: those of the last components up to `tail` on the first d axes
 pub record Tabulable (n d tail : ℕ) : Type 0 where
@@ -71,7 +69,7 @@ pub record Tabulable (n d tail : ℕ) : Type 0 where
 pub record TablesTo (n most : ℕ) (M : ModulusTables) : Type 0 where
   pub solved : SolutionsOf n M
   pub high : most ≤ solution_room
-  pub before : (t step : ℕ) → t < lasts → get_or M.steps t None ≡ Some step → get_or M.starts t 0 + n ≤ most
+  pub before : (t : ℕ) (s : Solved) → t < lasts → get_or M.solved t None ≡ Some s → s.start + n ≤ most
 
 -- ---- one run r
 module _ (r : Run) where
@@ -122,9 +120,6 @@ module _ (n j : ℕ) (components : List ℤ) (products sums : List ℕ) where
   pub record Readable (from to : ℕ) : Type 0 where
     pub modulus : ValidModulus n
     pub inner : suc j < axes
-    pub wide : length components ≡ axes * room
-    pub tabled : length products ≡ product_room
-    pub summed : length sums ≡ axes * room
     pub small : Covered largest_size components
     pub within : to ≤ room
     pub sums_below : (e : ℕ) → from ≤ e → e < to → get_or sums (j * room + e) 0 < n
@@ -138,13 +133,7 @@ module _ (n j : ℕ) (components : List ℤ) (products sums : List ℕ) where
     pub kept : (i : ℕ) → i < suc j * room + from → get_or new i 0 ≡ get_or sums i 0
 
 -- ---- the sieve at the axis behind axis j
--- what asking for the run of the component t at the axis behind axis j takes
-pub record RunAsked (bounds : List ℕ) (j t : ℕ) : Type 0 where
-  pub bounded : Bounds bounds
-  pub inner : suc j < axes
-  pub short : t ≤ lasts
-
--- where, among the numbers of axis j, that run starts
+-- where, among the numbers of axis j, the run of the component t at the axis behind it starts
 pub record RunStart (bounds : List ℕ) (j t start : ℕ) : Type 0 where
   pub is : start ≡ j * room + get_or bounds (suc j * lasts + t) 0
   pub inside : start ≤ axes * room
@@ -152,7 +141,6 @@ pub record RunStart (bounds : List ℕ) (j t start : ℕ) : Type 0 where
 module _ (n j : ℕ) (T : ListTables) (products sums : List ℕ) where
   -- what it asks
   pub record Sievable (M : ModulusTables) : Type 0 where
-    pub bounded : Bounds T.bounds
     pub solved : SolutionsOf n M
     pub readable : Readable n j T.components products sums (get_or T.bounds (suc j * lasts) 0) (get_or T.bounds (suc (suc j) * lasts) 0)
 
@@ -165,34 +153,42 @@ module _ (n j : ℕ) (T : ListTables) (products sums : List ℕ) where
     pub to : which < get_or T.bounds (suc (suc j * lasts + last)) 0
     pub solved : (part_at n j T.components products sums which + last * v) % n ≡ 0
 
-  -- among the marks of one axis each was there before or is forbidden
-  abbrev pub Barred : List Bool → List Bool → Type 0
-  Barred old new = MarkedFor n Forbidden old new
-
-  -- each of them is forbidden
-  abbrev pub AllBarred : List Bool → Type 0
-  AllBarred marks = (v : ℕ) → v < n → Marked marks v → Forbidden v
-
   -- each mark of the axis is forbidden; the marks of the axes before it stay
   pub record Sieved (old new : List Bool) : Type 0 where
     pub size : length new ≡ length old
     pub kept : KeptBelow false (suc j * largest_modulus) old new
     pub reason : (v : ℕ) → v < n → Marked new (suc j * largest_modulus + v) → Forbidden v
 
+-- the same of what is fixed before that axis
+module _ (p : Prefix) where
+  -- what it asks
+  abbrev pub SievablePrefix : Type 0
+  SievablePrefix = Sievable p.n p.before p.list.now p.products.now p.sums.now p.modulus.now
+
+  -- v is forbidden by a difference that ends there
+  abbrev pub ForbiddenBy : ℕ → Type 0
+  ForbiddenBy v = Forbidden p.n p.before p.list.now p.products.now p.sums.now v
+
+  -- among the marks of the axis alone each was there before or is forbidden
+  abbrev pub Barred : List Bool → List Bool → Type 0
+  Barred old new = MarkedFor p.n ForbiddenBy old new
+
+  -- each of them is forbidden
+  abbrev pub AllBarred : List Bool → Type 0
+  AllBarred marks = (v : ℕ) → v < p.n → Marked marks v → ForbiddenBy v
+
 -- ---- the sieve at the first axis: nothing stands before it, so a value v is struck where t v = 0 modulo n
 -- the step of t is a period of it, where it has one
-pub record Periods (n : ℕ) (steps : List (Option ℕ)) : Type 0 where
-  pub size : length steps ≡ lasts
-  pub some : (t step : ℕ) → t < lasts → get_or steps t None ≡ Some step → 1 ≤ step
-  pub few : (t step : ℕ) → t < lasts → get_or steps t None ≡ Some step → step ≤ n
-  pub period : (t step : ℕ) → t < lasts → get_or steps t None ≡ Some step → (t * step) % n ≡ 0
+pub record Periods (n : ℕ) (solved : List (Option Solved)) : Type 0 where
+  pub some : (t : ℕ) (s : Solved) → t < lasts → get_or solved t None ≡ Some s → 1 ≤ s.step
+  pub few : (t : ℕ) (s : Solved) → t < lasts → get_or solved t None ≡ Some s → s.step ≤ n
+  pub period : (t : ℕ) (s : Solved) → t < lasts → get_or solved t None ≡ Some s → (t * s.step) % n ≡ 0
 
 -- what it asks; components up to `tail` are looked at
-pub record FirstSievable (n tail : ℕ) (bounds : List ℕ) (steps : List (Option ℕ)) (struck : List Bool) : Type 0 where
+pub record FirstSievable (n tail : ℕ) (solved : List (Option Solved)) (struck : List Bool) : Type 0 where
   pub modulus : ValidModulus n
-  pub bounded : Bounds bounds
   pub short : tail < lasts
-  pub periods : Periods n steps
+  pub periods : Periods n solved
   pub inside : n ≤ length struck
 
 -- v is forbidden by a difference that ends there

@@ -24,7 +24,7 @@ use Rattle.planner.specs.Lists.{rows_in}
 use Rattle.planner.specs.Levels.{ending, Levels}
 use Rattle.planner.specs.Exchange.{Swaps}
 use Rattle.planner.specs.Table.{FlipMarks}
-use Rattle.planner.specs.Runs.{column, Bounds, Arranged}
+use Rattle.planner.specs.Runs.{column, Arranged}
 use Rattle.planner.specs.Sieve.{part_at, Readable, SolutionsOf, Sievable, Forbidden, FirstForbidden}
 
 -- the rule that is searched for: that of the plan for the list
@@ -131,7 +131,6 @@ pub record ValueEnd (s : Search) (at r : ℕ) : Type 0 where
 -- what marking the values of axis at asks
 pub record Siftable (s : Search) (at : ℕ) (w : Work) : Type 0 where
   pub modulus : ValidModulus s.n
-  pub bounded : Bounds s.task.list.now.bounds
   pub short : s.task.listing.tail < lasts
   pub solved : SolutionsOf s.n s.modulus.now
   pub sievable : (before : ℕ) → at ≡ suc before → Sievable s.n before s.task.list.now w.products w.sums s.modulus.now

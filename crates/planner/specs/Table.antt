@@ -7,7 +7,7 @@ use Rattle.rank1.specs.Named.{plan_number}
 use Rattle.rank1.specs.Rule.{Rule, Admissible}
 use Rattle.rank1.specs.Axes.{ZeroFrom}
 use Rattle.rank1.specs.Differences.{minus, negative, Has, EndsAt, Sound, Complete, Flips}
-use Rattle.planner.specs.Sizes.{largest_size, most_members, slot_count, largest_component}
+use Rattle.planner.specs.Sizes.{largest_size, slot_count, largest_component}
 use Rattle.planner.specs.Inner.{Covered, row_at}
 use Rattle.planner.specs.Lists.{rows_in}
 use Rattle.planner.specs.declared.list.Rows.{Rows}
@@ -47,13 +47,11 @@ pub record EndsAbove (h : List ℤ) : Type 0 where
   pub above : 0 < component
   pub ends : EndsAt axis component h
 
--- h is the difference of s and t, or its negative, and ends with a component above 0; where they do not differ, it is 0
-pub record Upright (s t h : List ℤ) (differ : Bool) : Type 0 where
-  pub which : EitherSign (minus s t) h
+-- h is g or -g, and ends with a component above 0 where it is not 0
+pub record Upright (g h : List ℤ) : Type 0 where
+  pub which : EitherSign g h
   pub small : Covered largest_size h
-  pub size : length h ≡ length s
-  pub above : differ ≡ true → EndsAbove h
-  pub nothing : differ ≡ false → ZeroFrom 0 h
+  pub above : ZeroFrom 0 h ⊎ EndsAbove h
 
 -- a row that can stand in a table of rows of d numbers
 pub record Storable (d : ℕ) (h : List ℤ) : Type 0 where
@@ -143,9 +141,8 @@ pub record RowThere (d : ℕ) (xs : List ℤ) (i : ℕ) : Type 0 where
 abbrev pub RowRun : (d number : ℕ) (xs : List ℤ) → Type 0
 RowRun d number xs = (i : ℕ) → i < number → RowThere d xs i
 
--- what pairing asks of the members and the level: there is room for the members, all are such rows, and the level is one of their axes
+-- what pairing asks of the members and the level: all members are such rows, and the level is one of their axes
 pub record Pairable (d : ℕ) (level : Option ℕ) (m : Members) : Type 0 where
-  pub few : m.count ≤ most_members
   pub run : RowRun d m.count m.rows
   pub inner : Below level d
 

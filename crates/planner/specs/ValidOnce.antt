@@ -32,11 +32,6 @@ ValidList-prop plan d xs v w i = record {
 pub Ready-prop : (d : ℕ) (xs : List ℤ) (n : ℕ) (z table : List ℕ) → IsProp (Ready d xs n z table)
 Ready-prop d xs n z table v w i = record {
   modulus = record { low = le_prop v.modulus.low w.modulus.low i; high = le_prop v.modulus.high w.modulus.high i };
-  some_axes = le_prop v.some_axes w.some_axes i;
-  few_axes = le_prop v.few_axes w.few_axes i;
-  whole = ℕ_set _ _ v.whole w.whole i;
-  few_rows = le_prop v.few_rows w.few_rows i;
-  different = Distinct-prop (index_list d xs) v.different w.different i;
   short = le_prop v.short w.short i;
   ended = λ k m j l. ℤ_set _ _ (v.ended k m j l) (w.ended k m j l) i;
   prepared = record {

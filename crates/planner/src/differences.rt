@@ -1,8 +1,8 @@
 // The differences of the pairs of rows that a plan keeps apart, collected in a table. Pairs are made of the members: the rows, under
 // plans A, B and C their mirrors. What a function says of the table is which pairs it grew by (`GrownTo`); where the table is full it
 // stops. Differences can be collected that end at one axis alone, the level; with None, all.
-// kept: s and t are the two rows of a pair, of one kind, which a struct of both would name no better; and the members are made anew for each level, so
-// they are no part of the rows that they are paired with.
+// kept: s and t are the two rows of a pair, of one kind, which a struct of both would name no better, and what is asked of them (`Subtractable`) speaks of
+// the table's d too; and the members are made anew for each level, so they are no part of the rows that they are paired with.
 
 ghost use Rattle.std.specs.Prelude.{◌≡◌, true, false, ◌≤◌, ◌<◌, length};
 ghost use Rattle.rank1.specs.Differences.{minus};
@@ -10,11 +10,12 @@ ghost use Rattle.rank1.specs.Index.{row_count};
 ghost use Rattle.rank1.specs.Named.{plan_number};
 ghost use Rattle.planner.specs.Lists.{rows_in};
 ghost use Rattle.planner.specs.Members.{Kin};
-ghost use Rattle.planner.specs.Table.{Subtractable, Below, Upright, OnePair, MemberPair, PairsFrom, RowPairs, BehindPairs, PlanPairs, GrownTo, RowThere, RowRun, Pairable};
+ghost use Rattle.planner.specs.Table.{Subtractable, Below, OnePair, MemberPair, PairsFrom, RowPairs, BehindPairs, PlanPairs, GrownTo, RowThere, RowRun, Pairable};
 
+use crate::flips::set_upright;
 use crate::list::Rows;
 use crate::members::Members;
-use crate::rows::{end_of, row_at};
+use crate::rows::row_at;
 use crate::sizes::{AXES, ROOM};
 use crate::table::Differences;
 use rank1::Plan;
@@ -30,24 +31,9 @@ fn set_minus(s: &[i16], t: &[i16], h: &mut [i16])
     }
 }
 
-// Sets h to the difference of two rows, or to its negative, with the last component that is not 0 above 0; answers whether they differ.
-fn set_difference(s: &[i16], t: &[i16], h: &mut [i16]) -> bool
-    requires { Subtractable (length h.old) s.now t.now }
-    ensures { Upright s.now t.now h.new result }
-{
-    set_minus(s, t, h);
-    let Some(j) = end_of(h) else {
-        return false;
-    };
-    if h[j] < 0 {
-        set_minus(t, s, h);
-    }
-    true
-}
-
-// kept: what pairs ask of the members and of the level is a clause: it speaks of the table's d, which a Pairing has not.
 // What pairs are made of: a plan, rows, the members that they are paired with, and the axis at which a difference is to end, or None
 // where it may end at any. The rows are as long as those of the table.
+// kept: what pairs ask of the members and of the level is a clause: it speaks of the table's d, which a Pairing has not.
 #[derive(Clone, Copy)]
 struct Pairing<'a> {
     plan: Plan,
@@ -72,11 +58,14 @@ impl Differences {
         requires { Subtractable self.old.d s.now t.now }
         ensures { GrownTo (OnePair s.now t.now) self.old self.new }
     {
+        if s == t {
+            return;
+        }
         let mut places = [0i16; AXES];
         let h = &mut places[..self.d];
-        if set_difference(s, t, h) {
-            self.add(h);
-        }
+        set_minus(s, t, h);
+        set_upright(h);
+        self.add(h);
     }
 
     // Adds the difference of two rows where it ends at the level; else the pair is passed over.
@@ -139,7 +128,8 @@ impl Differences {
         requires members { Pairable self.old.d pairing.now.level pairing.now.members.now }
         ensures { GrownTo (RowPairs (plan_number pairing.now.plan) self.old.d pairing.now.rows.now pairing.now.members.now) self.old self.new }
     {
-        // kept: i is the row's number, by which plan C knows the members that it owns; `enumerate` would hand on row and number where the number tells both.
+        // kept: i is the row's number, by which plan C knows the members that it owns; `enumerate` would hand on row and number where the number
+        // tells both.
         for i in 0..pairing.rows.len() / self.d {
             self.add_against(pairing, i, 0);
             if self.is_full() {

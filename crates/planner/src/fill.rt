@@ -2,6 +2,8 @@
 // all differences, the table is made anew, axis by axis: first the differences that end at the first axis, then those that end at the
 // next, until it is full, since a difference that ends early rules out more vectors than one that ends late. The rows of a pair whose
 // difference ends at an axis are the same behind it, so it is enough there to change the signs up to that axis.
+// kept: that the table has the d of the rows is a clause, since the rows are lent beside it and no field of its own names them; and that it is empty holds
+// only until the first difference comes.
 
 ghost use Rattle.std.specs.Prelude.{◌≡◌, ◌<◌};
 ghost use Rattle.planner.specs.Table.{FoundOf};

@@ -1,13 +1,16 @@
-// The axes whose sign change the rule does not see: under plan A all of them, else those under which a table that has all differences
-// stays itself.
+// Signs of rows: a row with another sign, a row that is turned so that it ends above 0, and the axes whose sign change the rule does not
+// see: under plan A all of them, else those under which a table that has all differences stays itself.
+// kept: that the components of a row are small is a clause: rows come as slices of the members, of the table and of places that are written anew, so that
+// a type of small components would be made at each. And that j is an axis of the table is a clause: j comes from one loop, in `set_flips`, and a type for
+// it would be made for that call.
 
 ghost use Rattle.std.specs.Prelude.{◌≡◌, true, ◌≤◌, ◌<◌, length};
 ghost use Rattle.rank1.specs.Axes.{flip};
-ghost use Rattle.rank1.specs.Differences.{negative, Closed};
+ghost use Rattle.rank1.specs.Differences.{negative, Has, Closed};
 ghost use Rattle.rank1.specs.Named.{plan_number};
 ghost use Rattle.planner.specs.Sizes.{largest_size};
 ghost use Rattle.planner.specs.Inner.{Covered};
-ghost use Rattle.planner.specs.Table.{rows_found, EitherSign, SeesNoSign, MarksRight};
+ghost use Rattle.planner.specs.Table.{rows_found, Storable, Upright, SeesNoSign, MarksRight};
 
 use crate::rows::end_of;
 use crate::sizes::AXES;
@@ -34,34 +37,37 @@ pub(crate) fn flip_row(row: &[i16], j: usize, h: &mut [i16])
     h[j] = -h[j];
 }
 
-// Sets h to a row with the other sign at axis j, or to its negative, as the table keeps its rows: with the last component that is not 0
-// above 0.
-fn set_flipped(row: &[i16], j: usize, h: &mut [i16])
-    requires { (length row.now ≡ length h.old) × Covered largest_size row.now × (j < length h.old) }
-    ensures { EitherSign (flip j row.now) h.new × Covered largest_size h.new }
+// Turns a row to its negative where its last component that is not 0 is below 0: so the table keeps its rows.
+pub(crate) fn set_upright(h: &mut [i16])
+    requires { Covered largest_size h.old }
+    ensures { Upright h.old h.new }
 {
-    flip_row(row, j, h);
-    if end_of(h).is_some_and(|e| h[e] < 0) {
-        negate(h);
+    if let Some(j) = end_of(h) {
+        if h[j] < 0 {
+            negate(h);
+        }
     }
 }
 
 impl Differences {
+    // Whether a row with the other sign at axis j, or its negative, stands in the table.
+    fn flipped_stands(&self, j: usize, row: &[i16]) -> bool
+        requires { Storable self.now.d row.now × (j < self.now.d) }
+        ensures { result ≡ true → Has (rows_found self.now) (flip j row.now) }
+    {
+        let mut places = [0i16; AXES];
+        let h = &mut places[..self.d];
+        flip_row(row, j, h);
+        set_upright(h);
+        self.stands(h)
+    }
+
     // Whether the table stays itself when the sign of axis j changes.
     fn closed_under(&self, j: usize) -> bool
         requires { j < self.now.d }
         ensures { result ≡ true → Closed j (rows_found self.now) }
     {
-        let mut places = [0i16; AXES];
-        let h = &mut places[..self.d];
-        // kept: as an `all` the closure would need clauses of its own for h, which it writes.
-        for row in self.rows[..self.count * self.d].chunks_exact(self.d) {
-            set_flipped(row, j, h);
-            if !self.stands(h) {
-                return false;
-            }
-        }
-        true
+        self.each().all(|row| self.flipped_stands(j, row))
     }
 
     // Whether the rule of a plan is known not to see the sign of component j.

@@ -43,13 +43,15 @@ impl<'r, 'a> Lattice<'r, 'a> {
     }
 
     // The residue of a row.
+    // kept: what the residues of a row and its mirrors ask of it (`ReadyRow`) is a clause: rows come one by one from `Rows::each` as slices, and a
+    // struct of lattice and row would be made and opened at each.
     pub(crate) fn residue(&self, row: &[i16]) -> u16
         requires { ReadyRow self.now row.now }
         ensures { (result ≡ residue_by self.now row.now) × (result < self.now.n) }
     {
         let mut sum: u32 = 0;
-        // kept: j is the axis of a component and of its products; `row.iter().zip(self.products.chunks_exact(PLACES)).take(self.z.len())` would be three
-        // adapters in place of it.
+        // kept: j is the axis of a component and of its products; `row.iter().zip(self.products.chunks_exact(PLACES)).take(self.z.len())` would be
+        // two iterators and two adapters in place of it.
         for j in 0..self.z.len() {
             sum += u32::from(self.products[j * PLACES + place_of(row[j])]);
         }

@@ -26,7 +26,8 @@ fn keep_ending(rows: &Rows, j: usize, out: &mut [i16]) -> usize
     let mut at = 0;
     for row in rows.each().filter(|row| ends_by(row, j)) {
         out[at..at + row.len()].copy_from_slice(row);
-        // kept: at is where the next row goes: rows that are passed over take no place, so no number of a row tells it.
+        // kept: at is where the next row goes and, behind the last, how many numbers they are: an `enumerate` behind the `filter` would tell the first and
+        // leave the second to be counted.
         at += row.len();
     }
     at

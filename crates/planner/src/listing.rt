@@ -23,6 +23,8 @@ pub(crate) struct Listing {
 }
 
 // What the search of a list is about at every modulus: the list, its tables, and what was told when its differences were set.
+// kept: what is known of its tables (`Tabled`) is a clause: it names the differences that were found, of which more than one list can be named, and
+// the fact of a ghost field may have one proof at most.
 #[derive(Clone, Copy)]
 pub(crate) struct Task<'a> {
     pub(crate) rows: Rows<'a>,
@@ -34,7 +36,7 @@ pub(crate) struct Task<'a> {
 pub(crate) fn set_differences(rows: &Rows, list: &mut ListTables) -> Listing
     requires { Covered 0 list.old.components }
     ensures made { Differenced rows.now result list.new.flips list.new.components list.new.bounds }
-    ensures only { list.new ≡ record list.old { flips = list.new.flips; components = list.new.components; bounds = list.new.bounds } }
+    ensures only { list.new ≡ record list.old { flips = list.new.flips; components = list.new.components; bounds = list.new.bounds; bounded = list.new.bounded } }
 {
     let mut found = Differences {
         d: rows.d,

@@ -3,7 +3,8 @@
 // sign. Signs are changed on the first `span` axes: on fewer than all, or where there is no room for all mirrors, those that are made
 // stay: what they tell is true, but not all that there is to tell.
 // kept: the axis, the number from which a row's members stand and their owner go one by one: the axis is another at each call, and a struct of the
-// other two would be opened in each clause.
+// other two would be opened in each clause. And that a row, or d, is at most six is a clause (in mirrors.rt and runs.rt too): rows come as slices of
+// the list, of the members and of the table, so that a type of short rows would be made at each.
 
 ghost use Rattle.std.specs.Prelude.{[], ◌+◌, ◌-◌, ◌≤◌, ◌<◌, length, get_or};
 ghost use Rattle.rank1.specs.Axes.{flip};
@@ -11,7 +12,6 @@ ghost use Rattle.rank1.specs.Index.{rows_of};
 ghost use Rattle.rank1.specs.Named.{plan_number};
 ghost use Rattle.planner.specs.Sizes.{axes, most_members};
 ghost use Rattle.planner.specs.Lists.{rows_in};
-ghost use Rattle.planner.specs.Members.{SmallRow, Pushed, Gathering, MembersStay, Doubles, Doubled, Mirroring, RowMembers};
 
 use crate::flips::flip_row;
 use crate::list::Rows;
@@ -21,19 +21,23 @@ use crate::sizes::{AXES, MOST_MEMBERS};
 use rank1::Plan;
 
 // The members that are made: `count` rows, one behind the other, beside each the number of the row of the list that it belongs to, its
-// owner; and whether these are all members.
+// owner; and whether these are all members. There are no more than there is room for.
 // kept: the rows and their owners stand in runs of their own: pairs are made of these rows as of the list's, which are one run of numbers; and a count
-// says how many there are, since no heap is asked for a `Vec`.
-// `whole` is no sign of whether there are members: those that have room are paired either way, so an Option does not say it.
+// says how many there are: a `Vec` asks for the heap, and the kit's arrayvec would be one more library that the gate takes as built
+// (docs/DECISIONS.md, "No heap").
+// kept: `whole` is no sign of whether there are members: those that have room are paired either way, so an Option does not say it.
 #[derive(Drop)]
 pub(crate) struct Members {
     pub(crate) rows: [i16; MOST_MEMBERS * AXES],
     pub(crate) owners: [u16; MOST_MEMBERS],
     pub(crate) count: usize,
     pub(crate) whole: bool,
+    ghost few: { count ≤ most_members },
 }
 
 impl Members {
+    ghost use Rattle.planner.specs.Members.{SmallRow, Pushed, Gathering, MembersStay, Doubles, Doubled, Mirroring, RowMembers};
+
     // Adds a row behind the others, with its owner beside it.
     fn push(&mut self, row: &[i16], owner: u16)
         requires { (length row.now ≤ axes) × (self.old.count < most_members) }
@@ -101,8 +105,7 @@ impl Members {
 
     // The members of a row, behind those that are there; the number of the row is their owner.
     fn add_mirrors(&mut self, plan: Plan, row: &[i16], span: usize, owner: u16)
-        requires small_row { (length row.now ≤ axes) × SmallRow row.now × (span ≤ length row.now) }
-        requires few { self.old.count ≤ most_members }
+        requires { (length row.now ≤ axes) × SmallRow row.now × (span ≤ length row.now) }
         ensures { MembersStay (length row.now) self.old.count self.old self.new × RowMembers (plan_number plan) (length row.now) self.old.count owner row.now self.new }
     {
         let from = self.count;

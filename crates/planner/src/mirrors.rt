@@ -28,7 +28,7 @@ fn reflect(out: &mut [u16; MOST_MIRRORS], count: usize, step: u16, n: u16)
     ensures { take (count + count) out.new ≡ take count out.old ++ map (λ r. (r + step) % n) (take count out.old) }
 {
     // kept: an index: after a `zip` with `iter_mut` a proof knows nothing of what was written. And a count beside the array says how many places
-    // are set, since no heap is asked for a `Vec`.
+    // are set: a `Vec` asks for the heap, and the kit's arrayvec would be one more library that the gate takes as built (docs/DECISIONS.md, "No heap").
     for t in 0..count {
         out[count + t] = sum_of(out[t], step, n);
     }

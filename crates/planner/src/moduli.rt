@@ -23,7 +23,8 @@ use rank1::{Plan, Refusal, Tally};
 
 // Runs the moduli from low to high: the first that does not fail, with its gentlest vector in `best`. The tables of a modulus and the
 // work are made here, once for all.
-// kept: `best` is lent beside the answer, as to `gentlest_vector`.
+// kept: `best` is lent with d places, so the clauses here and in rounds.rt speak of the vector itself: an Option of modulus and vector would hand
+// over an array of six, and each clause would speak of its first d.
 fn first_modulus(task: &Task, low: u16, high: u16, best: &mut [u16]) -> Option<u16>
     requires tabled { Tabled task.now }
     requires le_low { (1 ≤ low) × (high ≤ largest_modulus) × (length best.old ≡ task.now.rows.d) }
@@ -31,8 +32,7 @@ fn first_modulus(task: &Task, low: u16, high: u16, best: &mut [u16]) -> Option<u
 {
     let mut modulus = ModulusTables {
         solutions: [0; SOLUTION_ROOM],
-        starts: [0; LASTS],
-        steps: [None; LASTS],
+        solved: [None; LASTS],
     };
     let mut work = Work {
         sums: [0; AXES * ROOM],

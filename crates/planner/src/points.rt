@@ -57,9 +57,9 @@ impl<'a> Cutting<'a> {
         requires { (i < self.now.n) × (length line.old ≡ length self.now.z.now) }
         ensures { line.new ≡ point_line (plan_number self.now.plan) self.now.n self.now.z.now i }
     {
-        // kept: an index into z. After a `zip` of `iter_mut` the library says nothing of what was written, so no proof of it closes.
-        for (j, place) in line.iter_mut().enumerate() {
-            *place = self.entry(i, self.z[j]);
+        line.copy_from_slice(self.z);
+        for x in line.iter_mut() {
+            *x = self.entry(i, *x);
         }
     }
 

@@ -1,7 +1,8 @@
 // What the calls refuse, a function for each: the first of the conditions that concern its arguments, in document 01's order. (The
 // searches refuse 1 to 5 where they count the list, and have 9 beside these.)
-// kept: the arguments stand one by one and the plan is a number, as C passes them, until they are tested; then the rows are handed back, and n and z are a
-// pair for them (`PairFor`): the struct of these is `Lattice`, which is made where the 12 KiB of its products are.
+// kept: the arguments stand one by one and the plan is a number, as C passes them, until they are tested. What is tested is handed back by its type: the
+// rows, for which n and z then are a pair (`PairFor`), or, for the point list, which has no rows, the plan. The struct of rows, n and z is `Lattice`,
+// which is made where the 12 KiB of its products are.
 
 ghost use Rattle.std.specs.Prelude.{◌≡◌, [], ◌∷◌, length, IfOk};
 ghost use Rattle.rank1.specs.Named.{plan_number, refused};

@@ -32,7 +32,7 @@ fn lower(s: &Search, z: &mut [u16], work: &mut Work, best: &mut [u16])
 
 // The gentlest vector at n in `best`, or n fails with every vector: first all n values are tried, with every prune. Rows that end early
 // are left to the sieve where no difference was turned away and every last component has its solutions.
-// kept: a bool beside `best`, which has a component for each axis of the list: an Option would hand over six, of which callers take the first d.
+// kept: a bool beside `best`, for the reason at `first_modulus`.
 pub(crate) fn gentlest_vector(
     task: &Task,
     n: u16,

@@ -16,7 +16,7 @@ pub(crate) fn row_at(rows: &[i16], i: usize, d: usize) -> &[i16]
 }
 
 // The last axis at which a row is not 0; None where it is 0.
-// kept: one name for the library's chain, of which three modules ask the promise.
+// kept: one name for the library's chain, of which two modules ask the promise.
 pub(crate) fn end_of(h: &[i16]) -> Option<usize>
     ensures { MatchOption result (ZeroFrom 0 h.now) (LastAxis h.now) }
 {

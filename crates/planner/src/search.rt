@@ -12,11 +12,11 @@
 // | sign changes: no component above n / 2 | value_end, marks of flips.rt | flip-first, differences-flip (high_passed) |
 // | differences: no difference of a pair kept apart has residue 0 | sieve_at, sieve.rt | struck-out (forbidden-none) |
 //
-// kept: a component's number, the vector and the work are told one by one from call to call of the recursion: the number is another at each, and the
-// two are lent.
-//
 // The last vector is checked whole, so what the tables leave out costs time and no answer. Scaling holds only where all n values
 // of a component are tried, in the first round of a modulus (rounds.rt); the other prunes hold with fewer values too.
+//
+// kept: a component's number, the vector and the work are told one by one from call to call of the recursion: the number is another at each, and the
+// two are lent.
 
 ghost use Rattle.std.specs.Prelude.{◌≡◌, true, false, ◌≤◌, ◌<◌, length};
 ghost use Rattle.planner.specs.Sizes.{axes};
@@ -34,6 +34,8 @@ use crate::tables::{ModulusTables, Work};
 // What a search at one modulus is about; it is lent down the recursion: the list with its tables, the tables of the modulus, the modulus,
 // how many values of a component are tried, the value at which the first component starts, and whether every difference is struck (then
 // the rows that end early need no test of their own).
+// kept: that n is a modulus and that its tables are its solutions are clauses: with ghost fields `below` would name every field in place of
+// `..*self`, and `raised` and `next_free`, whose contracts name specs/Stage, would stand in another file, since Stage names the struct.
 #[derive(Clone, Copy)]
 pub(crate) struct Search<'a> {
     pub(crate) task: Task<'a>,
@@ -148,7 +150,7 @@ impl<'a> Search<'a> {
                 self.n,
                 self.task.listing.tail,
                 &list.bounds,
-                &self.modulus.steps,
+                &self.modulus.solved,
                 &mut work.struck[..end],
             );
             return;

@@ -1,18 +1,18 @@
 // The sieve: which values of a component the differences that end at its axis rule out, all at once. The contracts are about
 // soundness: a mark has a reason. That none is missing is speed.
 // kept: n beside the marks that are lent: the values are numbers of 16 bits below n, and the length of a slice is none. And the tables of the list and
-// those of the modulus are lent side by side: those of the list last for all moduli, the others for one.
+// those of the modulus are lent to `sieve` and `set_modulus` side by side: those of the list last for all moduli, the others for one.
 
 ghost use Rattle.std.specs.Prelude.{◌≡◌, MatchOption, suc, ◌+◌, ◌*◌, ◌%◌, ◌≤◌, ◌<◌, nat_abs, length, get_or};
 ghost use Rattle.rank1.specs.Valid.{ValidModulus};
-ghost use Rattle.planner.specs.Sieve.{Markable, Marking, SolutionsSet, SolutionsOf, Tabulable, TablesTo, Strikable, Struck, Readable, SumsSet, RunAsked, RunStart, Sievable, Barred, AllBarred, Sieved, FirstSievable, FirstBarred, AllFirstBarred};
+ghost use Rattle.planner.specs.Sieve.{Markable, Marking, SolutionsSet, SolutionsOf, Tabulable, TablesTo, Strikable, Struck, Readable, SumsSet, RunStart, Sievable, Sieved, SievablePrefix, Barred, AllBarred, FirstSievable, FirstBarred, AllFirstBarred};
 ghost use Rattle.planner.specs.Inner.{place};
 ghost use Rattle.planner.specs.Sizes.{axes, largest_size, places, room, lasts};
 
 use crate::products::{negative, place_of, sum_of};
 use crate::runs::occurs;
-use crate::sizes::{LARGEST_MODULUS, LASTS, PLACES, ROOM, SOLUTION_ROOM};
-use crate::tables::{ListTables, ModulusTables, Work};
+use crate::sizes::{AXES, LARGEST_MODULUS, LASTS, PLACES, PRODUCT_ROOM, ROOM, SOLUTION_ROOM};
+use crate::tables::{ListTables, ModulusTables, Solved, Work};
 
 // Sets the residues of the parts before axis at + 1, for the differences from `from` to before `to`, from those before axis at.
 // kept: the sums are written here, so they are not lent with the products in a Prefix, which is read alone.
@@ -21,9 +21,9 @@ pub(crate) fn set_sums(
     at: usize,
     from: usize,
     to: usize,
-    components: &[i16],
-    products: &[u16],
-    sums: &mut [u16],
+    components: &[i16; AXES * ROOM],
+    products: &[u16; PRODUCT_ROOM],
+    sums: &mut [u16; AXES * ROOM],
 )
     requires { Readable n at components.now products.now sums.old from to }
     ensures { SumsSet n at components.now products.now sums.old from to sums.new }
@@ -39,15 +39,16 @@ pub(crate) fn set_sums(
     }
 }
 
-// What is fixed before the axis that is sieved: the modulus, the axis before it, and the sums and products up to there.
-// kept: without the tables of the list and of the modulus. Tried with them, and the functions that take them as methods: it proves, and on five axes
-// with 2 rows under plan A `plan` then took 1.63 times the peer's time where this form took 1.46 (at most 1.5).
+// What is fixed before the axis that is sieved: the modulus, the axis before it, the tables of the list and of the modulus, and the sums and
+// products up to there.
 #[derive(Clone, Copy)]
 struct Prefix<'a> {
     n: u16,
     before: usize,
-    sums: &'a [u16],
-    products: &'a [u16],
+    list: &'a ListTables,
+    modulus: &'a ModulusTables,
+    sums: &'a [u16; AXES * ROOM],
+    products: &'a [u16; PRODUCT_ROOM],
 }
 
 // Marks v and what is a number of steps behind it, below n.
@@ -98,7 +99,9 @@ impl<'a> Run<'a> {
     }
 
     // Strikes the one solution of each difference. There is no test: where a difference has none, mark n is set, which stands for no value.
-    // kept: beside strike_steps: most strikes are here, and are made without the loop and the test of `mark_steps` (docs/DECISIONS.md, "Speed").
+    // kept: beside strike_steps, since it does without the loop and the test of `mark_steps`. Tried with strike_steps alone: it proves, and with the
+    // recursion at four places in memory five axes with 2 rows under plan A took 1.64 to 2.05 times the peer's time, with this form 1.36 to 1.64; the
+    // best of the four counts, and may be 1.5 (docs/DECISIONS.md, "Speed").
     fn strike_single(&self, struck: &mut [bool])
         requires { Strikable self.now struck.old }
         ensures { Struck self.now struck.old struck.new }
@@ -123,48 +126,11 @@ impl<'a> Run<'a> {
 }
 
 // Where, among the numbers of axis `before`, those of the differences start that end at the next axis with component t.
-fn run_start(bounds: &[u16], before: usize, t: usize) -> usize
-    requires { RunAsked bounds.now before t }
-    ensures { RunStart bounds.now before t result }
+fn run_start(list: &ListTables, before: usize, t: usize) -> usize
+    requires { (suc before < axes) × (t ≤ lasts) }
+    ensures { RunStart list.now.bounds before t result }
 {
-    before * ROOM + usize::from(bounds[(before + 1) * LASTS + t])
-}
-
-// Strikes by the run of the differences that end at the axis behind `before` with component t, where t has a table of solutions and
-// the run a difference.
-fn strike_run(
-    prefix: &Prefix,
-    t: usize,
-    list: &ListTables,
-    modulus: &ModulusTables,
-    struck: &mut [bool],
-)
-    requires sievable { Sievable prefix.now.n prefix.now.before list.now prefix.now.products.now prefix.now.sums.now modulus.now }
-    requires t_lt_lasts { (t < lasts) × (prefix.now.n < length struck.old) }
-    ensures { Barred prefix.now.n prefix.now.before list.now prefix.now.products.now prefix.now.sums.now struck.old struck.new }
-{
-    let n = prefix.n;
-    let before = prefix.before;
-    if let Some(step) = modulus.steps[t] {
-        let begin = run_start(&list.bounds, before, t);
-        let end = run_start(&list.bounds, before, t + 1);
-        if begin < end {
-            let axis = before * PLACES;
-            let behind = axis + PLACES;
-            let start = modulus.starts[t];
-            let stop = start + usize::from(n);
-            let run = Run {
-                n,
-                t,
-                step,
-                sums: &prefix.sums[begin..end],
-                components: &list.components[begin..end],
-                products: &prefix.products[axis..behind],
-                solutions: &modulus.solutions[start..stop],
-            };
-            run.strike(struck);
-        }
-    }
+    before * ROOM + usize::from(list.bounds[(before + 1) * LASTS + t])
 }
 
 // Where the run behind that of place `at` starts. It is never `at` itself, whatever the bound is, so that a walk over the runs ends.
@@ -175,36 +141,82 @@ fn next_run(at: usize, bound: usize) -> usize
     bound.max(at + 1)
 }
 
-// Sieves among the marks of the axis behind `before` alone: those that are set have been struck by one of its runs. The walk goes from
-// run to run: `at` is the place of a run's first difference among the numbers of axis `before`, and ROOM places on, among those of the
-// axis behind, stands its last component. Where the next run starts is looked up before this one is struck: the processor then need not
-// wait for it.
-fn strike_runs(prefix: &Prefix, list: &ListTables, modulus: &ModulusTables, struck: &mut [bool])
-    requires sievable { Sievable prefix.now.n prefix.now.before list.now prefix.now.products.now prefix.now.sums.now modulus.now }
-    requires struck_len { length struck.old ≡ suc prefix.now.n }
-    ensures { AllBarred prefix.now.n prefix.now.before list.now prefix.now.products.now prefix.now.sums.now struck.new }
-{
-    struck.fill(false);
-    let before = prefix.before;
-    let end = run_start(&list.bounds, before, LASTS);
-    let mut at = run_start(&list.bounds, before, 0);
-    // kept: no range goes from run to run. Tried as a `for` over the last components from 1 to the largest, each asked for its run: it proves, and on
-    // five axes with 2 rows under plan A `plan` then takes 1.70 times the peer's time, with this form 1.38 (at most 1.5).
-    while at < end {
-        let t = usize::from(list.components[at + ROOM].unsigned_abs());
-        let next = next_run(at, run_start(&list.bounds, before, t + 1));
-        strike_run(prefix, t, list, modulus, struck);
-        at = next;
+impl<'a> Prefix<'a> {
+    // Strikes by the run of the differences that end at the axis behind `before` with component t, where t has a table of solutions and
+    // the run a difference.
+    fn strike_run(&self, t: usize, struck: &mut [bool])
+        requires sievable { SievablePrefix self.now }
+        requires t_lt_lasts { (t < lasts) × (self.now.n < length struck.old) }
+        ensures { Barred self.now struck.old struck.new }
+    {
+        let Prefix {
+            n,
+            before,
+            list,
+            modulus,
+            sums,
+            products,
+        } = *self;
+        if let Some(Solved { start, step }) = modulus.solved[t] {
+            let begin = run_start(list, before, t);
+            let end = run_start(list, before, t + 1);
+            if begin < end {
+                let axis = before * PLACES;
+                let behind = axis + PLACES;
+                let stop = start + usize::from(n);
+                let run = Run {
+                    n,
+                    t,
+                    step,
+                    sums: &sums[begin..end],
+                    components: &list.components[begin..end],
+                    products: &products[axis..behind],
+                    solutions: &modulus.solutions[start..stop],
+                };
+                run.strike(struck);
+            }
+        }
+    }
+
+    // Sieves among the marks of the axis behind `before` alone: those that are set have been struck by one of its runs. The walk goes from
+    // run to run: `at` is the place of a run's first difference among the numbers of axis `before`, and ROOM places on, among those of the
+    // axis behind, stands its last component. Where the next run starts is looked up before this one is struck: the processor then need not
+    // wait for it.
+    fn strike_runs(&self, struck: &mut [bool])
+        requires sievable { SievablePrefix self.now }
+        requires struck_len { length struck.old ≡ suc self.now.n }
+        ensures { AllBarred self.now struck.new }
+    {
+        struck.fill(false);
+        let before = self.before;
+        let list = self.list;
+        let end = run_start(list, before, LASTS);
+        let mut at = run_start(list, before, 0);
+        // kept: no range goes from run to run. Tried as a `for` over the last components from 1 to the largest, each asked for its run: it proves,
+        // and with the recursion at four places in memory five axes with 2 rows under plan A took 1.70 to 1.87 times the peer's time, with this form
+        // 1.36 to 1.64; the best of the four counts, and may be 1.5 (docs/DECISIONS.md, "Speed").
+        while at < end {
+            let t = usize::from(list.components[at + ROOM].unsigned_abs());
+            let next = next_run(at, run_start(list, before, t + 1));
+            self.strike_run(t, struck);
+            at = next;
+        }
     }
 }
 
 // Strikes at the first axis the multiples of the period of t, where a difference ends there with component t.
-fn strike_first(n: u16, t: usize, bounds: &[u16], steps: &[Option<u16>], struck: &mut [bool])
-    requires { FirstSievable n t bounds.now steps.now struck.old }
+fn strike_first(
+    n: u16,
+    t: usize,
+    bounds: &[u16; AXES * LASTS + 1],
+    solved: &[Option<Solved>; LASTS],
+    struck: &mut [bool],
+)
+    requires { FirstSievable n t solved.now struck.old }
     ensures { FirstBarred n bounds.now struck.old struck.new }
 {
     if bounds[t] < bounds[t + 1] {
-        if let Some(step) = steps[t] {
+        if let Some(Solved { step, .. }) = solved[t] {
             mark_steps(n, 0, step, struck);
         }
     }
@@ -214,17 +226,17 @@ fn strike_first(n: u16, t: usize, bounds: &[u16], steps: &[Option<u16>], struck:
 pub(crate) fn sieve_first(
     n: u16,
     tail: usize,
-    bounds: &[u16],
-    steps: &[Option<u16>],
+    bounds: &[u16; AXES * LASTS + 1],
+    solved: &[Option<Solved>; LASTS],
     marks: &mut [bool],
 )
-    requires { FirstSievable n tail bounds.now steps.now marks.old }
+    requires { FirstSievable n tail solved.now marks.old }
     ensures { AllFirstBarred n bounds.now marks.old marks.new }
 {
     marks.fill(false);
     // kept: t is a last component: its run lies between two bounds, and its step stands in another table.
     for t in 1..=tail {
-        strike_first(n, t, bounds, steps, marks);
+        strike_first(n, t, bounds, solved, marks);
     }
 }
 
@@ -245,10 +257,12 @@ pub(crate) fn sieve(
     let prefix = Prefix {
         n,
         before,
+        list,
+        modulus,
         sums: &work.sums,
         products: &work.products,
     };
-    strike_runs(&prefix, list, modulus, &mut work.struck[first..end]);
+    prefix.strike_runs(&mut work.struck[first..end]);
 }
 
 // Sets the solutions of t and n, at first to n, which stands for none: v runs up from 0, and c is the residue of -t v. It ends where c
@@ -296,8 +310,8 @@ fn add_table(
         return None;
     }
     // kept: t is below LASTS; `try_from` would have an `Err` that never comes.
-    modulus.steps[t] = Some(set_solutions(n, t as u16, &mut modulus.solutions[at..end]));
-    modulus.starts[t] = at;
+    let step = set_solutions(n, t as u16, &mut modulus.solutions[at..end]);
+    modulus.solved[t] = Some(Solved { start: at, step });
     Some(end)
 }
 
@@ -313,7 +327,7 @@ pub(crate) fn set_modulus(
     requires { Tabulable n d tail }
     ensures { SolutionsOf n modulus.new }
 {
-    modulus.steps.fill(None);
+    modulus.solved.fill(None);
     let mut at = 0;
     // kept: t is a last component; as a `try_fold` the closure would need clauses of its own for the tables that each turn writes.
     for t in 1..=tail {

@@ -1,4 +1,6 @@
 // Map, spread and gather on a list and a pair that are known to be valid, with the products of z.
+// kept: that there are n sums is a clause: they are lent as a slice, to be written by spread and to be read by gather, so that a struct of n and sums
+// would have to be there in both kinds.
 
 ghost use Rattle.std.specs.Prelude.{◌≡◌, true, false, map, ℕ, ◌+◌, ◌*◌, ◌≤◌, ◌<◌, pos, ◌+ℤ◌, ◌*ℤ◌, length, get_or, MatchOption, ◌==◌, count_by};
 ghost use Rattle.std.specs.Int.Signed.{quot_z};

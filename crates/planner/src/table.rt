@@ -1,7 +1,8 @@
 // The table of differences, each once: a row is found by an open-addressing hash. That no row stands twice is a matter of speed
 // alone, so no contract says it; what is said is which rows the table has.
 
-ghost use Rattle.std.specs.Prelude.{◌≡◌, Some, None, true, ℕ, ◌≤◌, ◌<◌, get_or};
+ghost use Rattle.std.specs.Prelude.{◌≡◌, Some, None, true, ℕ, ◌*◌, ◌≤◌, ◌<◌, get_or, take};
+ghost use Rattle.std.specs.Slice.Iter.{chunks_exact_rest, chunks_exact_size};
 ghost use mathlib.Core.List.{Memᴰ};
 ghost use Rattle.planner.specs.Sizes.{axes, room, largest_size, slot_count};
 ghost use Rattle.planner.specs.Inner.{Covered};
@@ -9,11 +10,15 @@ ghost use Rattle.planner.specs.Inner.{Covered};
 use crate::products::place_of;
 use crate::rows::row_at;
 use crate::sizes::{AXES, ROOM, SLOTS};
+use std::slice::ChunksExact;
 
 // The differences that were found: `count` rows of d numbers each, one behind the other, and whether none was turned away or passed
 // over. A slot has the number of a row, or none. There is room for all rows, no slot has the number of a row that is not there, and the
 // components have places in the product tables.
-// kept: a hash of our own, and a count beside the rows: the library's maps, sets and `Vec` ask for the heap.
+// kept: a hash of our own, and a count beside the rows: the library's maps, sets and `Vec` ask for the heap, and the kit's arrayvec would be one more
+// library that the gate takes as built (docs/DECISIONS.md, "No heap").
+// kept: that a row can stand in the table (`Storable`) is a clause: h is written anew for each pair or flip in its caller's places, so a struct
+// around it would be made for one call.
 // kept: `whole` is no sign of whether there are differences: those that have room are searched with either way, so an Option does not say it.
 #[derive(Drop)]
 pub(crate) struct Differences {
@@ -43,6 +48,14 @@ fn hash(h: &[i16]) -> usize
 
 impl Differences {
     ghost use Rattle.planner.specs.Table.{rows_found, Storable, Probed, Added};
+
+    // The rows that were found, one by one.
+    pub(crate) fn each(&self) -> ChunksExact<'_, i16>
+        ensures rest { chunks_exact_rest result ≡ take (self.now.count * self.now.d) self.now.rows }
+        ensures size { chunks_exact_size result ≡ self.now.d }
+    {
+        self.rows[..self.count * self.d].chunks_exact(self.d)
+    }
 
     // Whether the slot p is empty or has the row h.
     fn takes(&self, p: usize, h: &[i16]) -> bool

@@ -14,7 +14,7 @@ pub(crate) fn largest_of(z: &[u16]) -> u16
 
 // Whether y is gentler than z: the largest components are compared first, and then the vectors in dictionary order, which is that of
 // slices. z has as many components.
-// kept: one name for it, so that it is proved once that this order of pairs is document 02's.
+// kept: a name for the order that document 02 defines: that the order of pairs is this order is proved here, and `left_wins` asks for no more.
 pub(crate) fn is_gentler(y: &[u16], z: &[u16]) -> bool
     requires { length y.now ≡ length z.now }
     ensures { Decides result (Gentler y.now z.now) }

@@ -99,10 +99,6 @@ module _ {A : Type 0} where
   pub true_every : (f : A → Bool) (xs : List A) → ((x : A) → Memᴰ x xs → f x ≡ true) → every f xs ≡ true
   true_every f xs h = holds_true (every f xs) (all_every f xs (λ x m. true_holds (f x) (h x m)))
 
-  -- one member fails
-  pub false_every : (f : A → Bool) (xs : List A) (x : A) → Memᴰ x xs → f x ≡ false → every f xs ≡ false
-  false_every f xs x m e = fails_false (every f xs) (λ t. false_fails (f x) e (every_at f xs t x m))
-
   -- no member passes
   pub any_false : (f : A → Bool) (xs : List A) → any f xs ≡ false → (x : A) → Memᴰ x xs → f x ≡ false
   any_false f [] e x m = absurd (Memᴰ.not-nil m)

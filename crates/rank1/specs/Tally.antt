@@ -22,11 +22,12 @@ zero_in d ks = any (same_row (zero_row d)) ks
 abbrev pub recount : ℕ → ℕ → List (List ℤ) → Tally
 recount plan d ks = record { m = length ks; size = size_kept plan ks; zero = zero_in d ks }
 
--- two records have all three equal
+-- two flags are equal
 abbrev pub same_flag : Bool → Bool → Bool
 same_flag true b = b
 same_flag false b = not b
 
+-- two records have all three equal
 abbrev pub same_tally : Tally → Tally → Bool
 same_tally t u = eqb t.m u.m && (eqb t.size u.size && same_flag t.zero u.zero)
 

@@ -69,7 +69,7 @@ pub enum Plan {
 impl From<Plan> for u8 {
     ghost from_gives = { λ plan given. given ≡ plan_number plan };
 
-    // kept: the one place where a plan becomes its number, for C and the text form.
+    // kept: the one place where a plan becomes its number, for the calls that take any number, as C passes it.
     fn from(plan: Plan) -> u8 {
         plan as u8
     }

@@ -1,6 +1,6 @@
 // Validation: the conditions 1 to 8 of document 01's refusal table, those of a list with a row more and of corners (document 02, b and c), told by `?`.
-// kept: the plan is a number, and d and the rows, n and z stand apart: what is tested here is what a caller was given, any number and any length, and C passes
-// them so.
+// kept: the plan is a number, and d and the rows, n and z stand apart: what is tested here is what a caller was given, any number and any length, and
+// C passes them so.
 
 #![tactic(auto)]
 
@@ -37,8 +37,7 @@ pub fn check_plan(plan: u8) -> Result<(), Refusal>
 pub fn check_map_plan(plan: u8) -> Result<(), Refusal>
     ensures { refused result ≡ bad_map_plan plan }
 {
-    check_plan(plan)?;
-    if plan == 0 {
+    if Plan::try_from(plan)? == Plan::Integration {
         return Err(Refusal::Plan);
     }
     Ok(())
@@ -55,7 +54,7 @@ pub fn check_axes(d: usize) -> Result<(), Refusal>
 }
 
 // Condition 3 of as many numbers: no multiple of d, or more than 512 rows.
-// kept: that d is not 0 is asked by three functions right behind check_axes; a type for it would be made for these calls.
+// kept: that d is not 0 is asked by three functions, which stand behind check_axes; a type for it would be made for these calls.
 fn check_length(d: usize, size: usize) -> Result<(), Refusal>
     requires { 1 ≤ d }
     ensures { (xs : List ℤ) → length xs ≡ size → refused result ≡ bad_length d xs }

@@ -74,6 +74,7 @@ fn answered(text: &[u8]) -> Writer
 }
 
 // Answers a text in places that have room for every answer, and returns how many bytes it has. Places past it hold what they held.
+// kept: places and a count, for the reason at `Writer`.
 pub fn answer_whole(text: &[u8], out: &mut [u8; ANSWER_BYTES]) -> usize
     ensures { Stands (AnswerTo text.now) out.old out.new result }
 {
@@ -82,6 +83,7 @@ pub fn answer_whole(text: &[u8], out: &mut [u8; ANSWER_BYTES]) -> usize
 
 // Answers a text, and returns how many bytes the answer has. Places past it hold what they held; where there is not room nothing is
 // written.
+// kept: places and a count, for the reason at `Writer`.
 pub fn answer(text: &[u8], out: &mut [u8]) -> Option<usize>
     ensures { AnsweredWith text.now out.old out.new result }
 {

@@ -30,6 +30,8 @@ pub(crate) struct Head {
 }
 
 // A request: the plan, rows of d numbers, one behind the other, and the ceiling (8193 for any above 8192).
+// kept: that the rows are as many as line 1 says (`Counted`) is a clause: one function asks it, and with a ghost field the struct would need a file
+// of its own, since specs/Inner, which this file cites, names it.
 #[derive(Clone, Copy)]
 pub(crate) struct Request<'a> {
     pub(crate) plan: Plan,
@@ -77,9 +79,7 @@ impl Head {
             return Err(Refusal::Plan);
         };
         let plan = Plan::try_from(number)?;
-        if self.d < 1 || self.d > MOST_AXES {
-            return Err(Refusal::Axes);
-        }
+        refusal::check_axes(self.d)?;
         if self.m > MOST_ROWS {
             return Err(Refusal::Length);
         }

@@ -11,7 +11,8 @@ use rank1::Refusal;
 use std::marker::Model;
 
 // An answer while it is written: it stands in the first `at` of places that have room for every answer.
-// kept: places and a count: a `Vec` asks for the heap, and with the kit's crate arrayvec the proof would rest on what that crate states too.
+// kept: places and a count: a `Vec` asks for the heap, and the kit's arrayvec would be one more library that the gate takes as built
+// (docs/DECISIONS.md, "No heap").
 #[derive(Drop)]
 pub(crate) struct Writer {
     pub(crate) places: [u8; ANSWER_BYTES],
@@ -91,8 +92,8 @@ impl Writer {
     }
 
     // A number, digit by digit: those before the last one first.
-    // kept: by hand: `write!` promises its bytes on a `String` alone, which asks for the heap; with the kit's crate itoa the proof would rest on
-    // what that crate states too, and nothing new is trusted here. A digit is at most 9; `try_from` would have an `Err` that never comes.
+    // kept: by hand: `write!` promises its bytes on a `String` alone, which asks for the heap, and the kit's itoa would be one more library that the
+    // gate takes as built (docs/DECISIONS.md, "No heap"). A digit is at most 9; `try_from` would have an `Err` that never comes.
     fn number(&mut self, x: u16)
         requires { length self.old + 5 ≤ ANSWER_BYTES }
         ensures text { self.new ≡ self.old ++ number_text x }

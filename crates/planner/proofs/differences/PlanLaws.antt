@@ -111,9 +111,8 @@ module _ (plan d : ℕ) (rows : List ℤ) (members : Members) (v : ValidList pla
 
   pub listed-members : (level : Option ℕ) → length members.rows ≡ most_members * axes → Below level d → Pairable d level members
   listed-members level long inner = record {
-    few = kin.few;
     run = λ e l. record {
-      inside = omega (arith, mul-le-mul {n₁ = e + 1} {m₁ = d} {n₂ = most_members} {m₂ = axes} (omega (arith, l, kin.few)) v.few_axes);
+      inside = omega (arith, mul-le-mul {n₁ = e + 1} {m₁ = d} {n₂ = most_members} {m₂ = axes} (omega (arith, l, members.few)) v.few_axes);
       small = member_covered e l;
     };
     inner = inner;

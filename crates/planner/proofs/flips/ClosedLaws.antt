@@ -3,28 +3,25 @@
 use mathlib.Core.Path.{◌≡◌, refl, sym, ◌∙◌, ap, subst}
 use mathlib.Core.Bool.{true}
 use mathlib.Core.List.{List, [], ◌∷◌}
-use Prim.Native.Nat.{ℕ, zero, suc, ◌<◌, ◌≤◌}
+use Prim.Native.Nat.{ℕ, zero, suc, ◌≤◌}
 use native.Mathlib.Omega.{arith}
 use lib.IntN.{ℤ, pos, nat_abs, neg_ℤ, ◌-ℤ◌, +ℤ_idl}
 use lib.ListN.{get_or, set}
 use mir.Syntax.{w16}
 use mir.Val.{SFits, to_z, of_z}
 use mir.Facts.{to_z-of_z}
-use Rattle.rank1.specs.Index.{rows_of}
 use Rattle.rank1.specs.Axes.{flip}
 use Rattle.rank1.specs.Rule.{Admissible}
-use Rattle.rank1.specs.Differences.{negative, Has, Closed, Flips}
+use Rattle.rank1.specs.Differences.{Closed, Flips}
 use Rattle.rank1.proofs.MirrorLaws.{sizes_at}
-use Rattle.rank1.proofs.IndexLaws.{RowPlace, row_out}
 use Rattle.rank1.proofs.FlipLaws.{flip-sizes, plan_a_flips}
 use Rattle.rank1.proofs.DifferenceLaws.{differences-flip}
 use Rattle.planner.specs.Sizes.{largest_size}
-use Rattle.planner.specs.Inner.{Covered, row_at}
+use Rattle.planner.specs.Inner.{Covered}
 use Rattle.planner.specs.Table.{rows_found, SeesNoSign}
 use Rattle.planner.specs.declared.table.Differences.{Differences}
 use Rattle.planner.proofs.products.ProductLaws.{small_fits, read_back}
 use Rattle.rank1.proofs.FlipLaws.{size-neg}
-use Rattle.planner.proofs.differences.UprightLaws.{negative_at}
 
 -- ---- the other sign
 -- of a component, as the code reads it: it fits an i16, and is read back
@@ -48,20 +45,7 @@ flip-set (suc j) (x ∷ xs) = ap (λ (l : List ℤ). x ∷ l) (flip-set j xs)
 pub covered_flip : (top j : ℕ) (xs : List ℤ) → Covered top xs → Covered top (flip j xs)
 covered_flip top j xs c = record { narrow = c.narrow; covered = λ i. omega (arith, sizes_at (flip j xs) xs (flip-sizes j xs) i, c.covered i) }
 
-pub covered_negative : (top : ℕ) (h : List ℤ) → Covered top h → Covered top (negative h)
-covered_negative top h c =
-    record { narrow = c.narrow; covered = λ i. rw (negative_at h i) (omega (arith, size-neg (get_or h i (pos 0)), c.covered i)) }
-
 -- ---- the table
--- every row, flipped, is there: the table stays itself
-pub rows-closed :
-    (d j count : ℕ) (found : List ℤ) → ((i : ℕ) → i < count → Has (rows_of d count found) (flip j (row_at d found i)))
-    → Closed j (rows_of d count found)
-rows-closed d j count found f h m = go (row_out d count found h m)
-  where
-    go : RowPlace d count found h → Has (rows_of d count found) (flip j h)
-    go p = subst (λ (k : List ℤ). Has (rows_of d count found) (flip j k)) (sym p.is) (f p.index p.inside)
-
 -- plan 2 sees no sign
 pub sign-all : (plan j : ℕ) (t : Differences) → plan ≡ 2 → SeesNoSign plan j t
 sign-all plan j t e ks f = subst (λ (p : ℕ). Flips j (Admissible p ks)) (sym e) (plan_a_flips ks j)

@@ -14,7 +14,7 @@ use borrow.Rule.Slice.PartMut.{put_mid}
 use lib.Dec.{T}
 use lib.IntN.{ℤ, pos, nat_abs}
 use lib.ListN.{length, get_or, take, drop, set, length-append, length-drop}
-use lib.Seq.{length-take-le, take_all, take-append-le, drop-append-le, drop_at, get_or-take, get_or-drop, get_or-set_same, get_or-set_other, paste, take-paste, length-paste}
+use lib.Seq.{length-take-le, take_all, take-append-le, drop_at, get_or-take, get_or-drop, get_or-set_same, get_or-set_other, paste, take-paste, length-paste}
 use Rattle.std.specs.List.{filter}
 use Rattle.std.proofs.lemmas.List.{get_or_past, take_more}
 use Rattle.rank1.proofs.Distinct.{member_at}
@@ -24,7 +24,7 @@ use Rattle.rank1.specs.Index.{rows_of, row_count, index_list}
 use Rattle.rank1.specs.Valid.{Distinct, ValidList}
 use Rattle.rank1.specs.Axes.{ZeroFrom}
 use Rattle.rank1.proofs.TestLaws.{true_holds, holds_true, both, joined, decides_number}
-use Rattle.rank1.proofs.IndexLaws.{rows-length, row_in, RowPlace, row_out, member_length, rows_snoc}
+use Rattle.rank1.proofs.IndexLaws.{rows-length, row_in, RowPlace, row_out, member_length, rows_front, rows_snoc}
 use Rattle.planner.specs.Sizes.{axes, most_rows, level_room, largest_component}
 use Rattle.planner.specs.Inner.{Covered}
 use Rattle.planner.specs.Levels.{zero_from, ending, level_run, RunOf, Kept, LevelsTo, Levels}
@@ -127,17 +127,6 @@ level_of d m ks xs l e p =
 
 pub level_count : {d : ℕ} {ks : List (List ℤ)} {xs : List ℤ} → RunOf d ks xs → row_count d xs ≡ length ks
 level_count {d} {ks} {xs} v = sym (rows-length d (row_count d xs) xs) ∙ ap length v.rows
-
--- m rows are in the first m × d numbers
-rows_front : (d m : ℕ) (xs ys : List ℤ) → m * d ≤ length xs → rows_of d m (xs ++ ys) ≡ rows_of d m xs
-rows_front d zero xs ys h = refl
-rows_front d (suc m) xs ys h =
-    ap (λ (k : List ℤ). k ∷ rows_of d m (drop d (xs ++ ys))) (take-append-le d xs ys first)
-    ∙ ap (λ (k : List ℤ). take d xs ∷ rows_of d m k) (drop-append-le d xs ys first)
-    ∙ ap (λ (ks : List (List ℤ)). take d xs ∷ ks) (rows_front d m (drop d xs) ys (omega (arith, length-drop d xs, suc-mul m d)))
-  where
-    first : d ≤ length xs
-    first = omega (arith, suc-mul m d)
 
 pub level_more : {d : ℕ} {ks : List (List ℤ)} {xs : List ℤ} (k : List ℤ) → 1 ≤ d → RunOf d ks xs → length k ≡ d → RunOf d (ks ++ (k ∷ [])) (xs ++ k)
 level_more {d} {ks} {xs} k l v e = level_of d (suc m) (ks ++ (k ∷ [])) (xs ++ k) l size rows
@@ -355,10 +344,6 @@ pub record LevelReady (plan d top j : ℕ) (xs : List ℤ) : Type 0 where
 
 -- ---- a valid list and its levels
 module _ (plan d : ℕ) (xs : List ℤ) (v : ValidList plan d xs) where
-  -- each has d components
-  pub valid_long : (k : List ℤ) → Memᴰ k (index_list d xs) → length k ≡ d
-  valid_long k m = member_length d (row_count d xs) xs k (omega (arith, v.whole)) m
-
   -- it has no more numbers than a level has places
   pub valid_size : length xs ≤ level_room
   valid_size = omega (arith, v.whole, mul-le-mul_right {m = row_count d xs} {n = most_rows} d v.few_rows, v.few_axes)
@@ -366,7 +351,7 @@ module _ (plan d : ℕ) (xs : List ℤ) (v : ValidList plan d xs) where
   module _ (top : ℕ) (levels : List ℤ) (sizes : List ℕ) (s : Levels d top xs levels sizes) where
     module _ (j : ℕ) (l : j ≤ d) where
       run : RunOf d (ending j (index_list d xs)) (level_run levels sizes j)
-      run = s.level j l
+      run = s.level j (omega (arith, l))
 
       -- what the rule asks of it
       pub level_ready : LevelReady plan d top j (level_run levels sizes j)

@@ -171,11 +171,11 @@ doubled-block d from axis owner old new l s =
 
 -- ---- what stands before stays
 -- the same members, which are not all
-abbrev pub some : Members → Members
-some m = record { rows = m.rows; owners = m.owners; count = m.count; whole = false }
+abbrev pub some : (m : Members) → m.count ≤ most_members → Members
+some m few = record { rows = m.rows; owners = m.owners; count = m.count; whole = false; few = few }
 
-pub stay_some : (d from : ℕ) (m : Members) → MembersStay d from m (some m)
-stay_some d from m = record { rows = refl; owned = λ e l. refl; was = λ w. absurd (true≢false (sym w)) }
+pub stay_some : (d from : ℕ) (m : Members) (few : m.count ≤ most_members) → MembersStay d from m (some m few)
+stay_some d from m few = record { rows = refl; owned = λ e l. refl; was = λ w. absurd (true≢false (sym w)) }
 
 -- through two steps
 pub stay_then : (d from : ℕ) (a b c : Members) → MembersStay d from a b → MembersStay d from b c → MembersStay d from a c
@@ -206,12 +206,11 @@ module _ (d owner : ℕ) (k : List ℤ) where
 
   -- with its owner beside it, it is the first of its mirrors
   pub mirroring-first :
-      (old new : Members) → d ≤ axes → length k ≡ d → SmallRow k → old.count < most_members → Pushed d k owner old new → Mirroring d 0 old.count owner k new
-  mirroring-first old new r e f l p = record {
+      (old new : Members) → d ≤ axes → length k ≡ d → SmallRow k → Pushed d k owner old new → Mirroring d 0 old.count owner k new
+  mirroring-first old new r e f p = record {
     few_axes = r;
     size = e;
     small = f;
-    few = omega (arith, p.count);
     within = omega (arith, p.count);
     owned = λ i a b. owned i (omega (arith, p.count));
     kin = λ s m. Memᴰ.cast (Memᴰ.eq_of_singleton (subst (Memᴰ s) (alone old new p) m)) (mirror_self k);
@@ -227,7 +226,6 @@ module _ (d owner : ℕ) (k : List ℤ) where
     few_axes = t.few_axes;
     size = t.size;
     small = t.small;
-    few = t.few;
     within = t.within;
     owned = t.owned;
     kin = t.kin;
@@ -236,13 +234,11 @@ module _ (d owner : ℕ) (k : List ℤ) where
 
   -- any other axis
   pub mirroring-doubled :
-      (a from : ℕ) (old new : Members) → old.count + (old.count - from) ≤ most_members → Mirroring d a from owner k old
-      → Doubled d from (old.count - from) a owner old new → Mirroring d (a + 1) from owner k new
-  mirroring-doubled a from old new l t s = record {
+      (a from : ℕ) (old new : Members) → Mirroring d a from owner k old → Doubled d from (old.count - from) a owner old new → Mirroring d (a + 1) from owner k new
+  mirroring-doubled a from old new t s = record {
     few_axes = t.few_axes;
     size = t.size;
     small = t.small;
-    few = omega (arith, s.count);
     within = omega (arith, t.within, s.count);
     owned = λ e f g. owned e f g (dec_le old.count e);
     kin = λ i m. doubled-kin k a block t.kin i (subst (Memᴰ i) now m);
@@ -261,10 +257,9 @@ module _ (d owner : ℕ) (k : List ℤ) where
 
 -- ---- the members of one row more
 -- there is no room for any
-pub row-full : (plan d owner : ℕ) (k : List ℤ) (m : Members) → d ≤ axes → m.count ≤ most_members → RowMembers plan d m.count owner k (some m)
-row-full plan d owner k m r l = record {
+pub row-full : (plan d owner : ℕ) (k : List ℤ) (m : Members) → d ≤ axes → (few : m.count ≤ most_members) → RowMembers plan d m.count owner k (some m few)
+row-full plan d owner k m r few = record {
   few_axes = r;
-  few = l;
   within = omega arith;
   owned = λ e f g. absurd (omega arith);
   kin = λ s i. absurd (Memᴰ.not-nil (subst (Memᴰ s) none i));
@@ -280,7 +275,6 @@ pub row-alone :
     → RowMembers plan d old.count owner k new
 row-alone plan d owner k old new l p t = record {
   few_axes = t.few_axes;
-  few = t.few;
   within = t.within;
   owned = t.owned;
   kin = λ s m. subst (Memᴰ s) same m;
@@ -295,7 +289,6 @@ pub row-mirrors :
     (plan d from owner : ℕ) (k : List ℤ) (m : Members) → leb 2 plan ≡ true → Mirroring d d from owner k m → RowMembers plan d from owner k m
 row-mirrors plan d from owner k m l t = record {
   few_axes = t.few_axes;
-  few = t.few;
   within = t.within;
   owned = t.owned;
   kin = λ s i. subst (Memᴰ s) (sym many) (t.kin s i);
@@ -375,7 +368,7 @@ module _ (plan d : ℕ) (ks : List (List ℤ)) (k : List ℤ) (old new : Members
   -- both together; all are there where they were before and all of this row are
   gathering_more : Gathering plan d (ks ++ (k ∷ [])) new
   gathering_more = record {
-    known = record { few = r.few; few_axes = r.few_axes; kin = λ e l. kin e l (dec_le old.count e) };
+    known = record { few_axes = r.few_axes; kin = λ e l. kin e l (dec_le old.count e) };
     all = λ w. record { there = λ i l t m. there w i l (dec_le (length ks) i) t m };
   }
 

@@ -1,12 +1,13 @@
 -- The mirrors of a row: their residues by doubling, from the last axis to the first. A component that is 0 leaves the residues as they
--- are; any other puts them once more behind, each with twice the residue of the product with the sign turned added. At the end: what a
--- list of rows says of one row.
+-- are; any other puts them once more behind, each with twice the residue of the product with the sign turned added. At the end: that a
+-- lattice is ready for each of its rows.
 use mathlib.Core.Path.{◌≡◌, refl, sym, ◌∙◌, ap, subst}
 use mathlib.Core.List.{List, [], ◌∷◌, ◌++◌, map, map-map, map-append, append-nil, append_assoc, Memᴰ}
 use Prim.Native.Nat.{ℕ, zero, suc, ◌+◌, ◌*◌, ◌%◌, ◌^◌, ◌<◌, ◌≤◌}
 use native.Mathlib.Numerals.{add-one}
 use native.Mathlib.Nat.{add-zero}
 use native.Mathlib.Omega.{arith}
+use denote.Ref.{Bor}
 use lib.IntN.{ℤ, pos, negsuc, nat_abs, neg_ℤ, ◌+ℤ◌, ◌-ℤ◌, ◌*ℤ◌, +ℤ_idl, +ℤ_invr, +ℤ_comm, +ℤ_assoc, *ℤ-zero}
 use lib.ListN.{length, get_or, take, drop, set, length-map, length-drop, length-set, take-append-drop, get_or-map, get_or-append}
 use lib.Seq.{length-take-le, take-suc, take-suc-set, drop-cons, get_or-take, get_or-drop}
@@ -14,18 +15,25 @@ use lib.Pow.{pow_mono}
 use mir.Syntax.{w16}
 use mir.Val.{SFits, to_z, of_z}
 use mir.Facts.{to_z-of_z}
+use Rattle.std.specs.Iterator.{CallableAtEachTurn}
+use Rattle.std.specs.Slice.Iter.{chunks_exact_steps}
+use Rattle.std.specs.declared.slice.ChunksExact.{ChunksExact}
 use Rattle.std.proofs.lemmas.List.{get_or-map as get_or-map_in}
 use Rattle.rank1.specs.Residue.{residue, dot, residue_at}
-use Rattle.rank1.specs.Index.{signs, headed, mirrors, row_count, index_list}
+use Rattle.rank1.specs.Index.{signs, headed, mirrors, row_count}
 use Rattle.rank1.specs.Axes.{ZeroFrom}
 use Rattle.rank1.proofs.Whole as W
 use Rattle.rank1.proofs.ResidueLaws.{residue-add, residue-lt}
 use Rattle.rank1.proofs.MirrorLaws.{mirrors-length}
 use Rattle.rank1.proofs.FlipLaws.{size-neg}
-use Rattle.rank1.proofs.IndexLaws.{part_length, row_in, row_out}
+use Rattle.rank1.proofs.IndexLaws.{RowPlace, row_out}
 use Rattle.rank1.proofs.SumLaws.{nonzeros-le}
 use Rattle.planner.specs.Sizes.{most_mirrors, largest_size, places}
-use Rattle.planner.specs.Inner.{place, RowReady, Ready}
+use Rattle.planner.specs.Inner.{place, Prepared, RowReady}
+use Rattle.planner.specs.Lists.{rows_in, ReadyRow}
+use Rattle.planner.specs.declared.list.Rows.{Rows}
+use Rattle.planner.specs.declared.lattice.Lattice.{Lattice}
+use Rattle.planner.proofs.RowLaws.{row_long, FromFirst, Comes, row_listed, rows-served}
 use Rattle.planner.proofs.products.ProductLaws.{small_fits, read_back, prepared_row}
 
 -- ---- a component with its sign turned: 0 - x, which fits
@@ -309,23 +317,36 @@ module _ {n : ℕ} {z : List ℕ} {k : List ℤ} {table : List ℕ} (ready : Row
         ready.prepared.entry j j (neg_ℤ (get_or k j (pos 0))) (omega (arith, s.inside))
         (omega (arith, size-neg (get_or k j (pos 0))))
 
--- ---- what the residues of a row's mirrors ask holds for each row of a list
-module _ {d : ℕ} {xs : List ℤ} {n : ℕ} {z table : List ℕ} (r : Ready d xs n z table) where
-  part-ready : (i : ℕ) → i < row_count d xs → RowReady n z (take d (drop (i * d) xs)) table
-  part-ready i l = record {
-    modulus = r.modulus;
-    few_axes = omega (arith, long, r.few_axes);
-    short = omega (arith, long, r.short);
-    ended = r.ended (take d (drop (i * d) xs)) (row_in d (row_count d xs) xs i l);
-    prepared = prepared_row n d (i * d) z xs table r.prepared;
+-- ---- what the residues of a row's mirrors ask holds for each row of a lattice
+module _ (lattice : Lattice) where
+  -- a row of the list
+  pub listed-ready : (k : List ℤ) → Memᴰ k (rows_in lattice.rows) → ReadyRow lattice k
+  listed-ready k m = record {
+    modulus = lattice.ready.modulus;
+    few_axes = omega (arith, long, rows.valid.few_axes);
+    short = omega (arith, long, lattice.ready.short);
+    ended = lattice.ready.ended k m;
+    prepared =
+        subst (λ (h : List ℤ). Prepared lattice.n lattice.z.now h lattice.products.now) (sym at.is)
+        (prepared_row lattice.n rows.d (at.index * rows.d) lattice.z.now rows.numbers.now lattice.products.now lattice.ready.prepared);
   }
     where
-      long : length (take d (drop (i * d) xs)) ≡ d
-      long = part_length d (row_count d xs) xs i l (omega (arith, r.whole))
+      rows : Rows
+      rows = lattice.rows
 
-  pub row-ready : (i : ℕ) → i < row_count d xs → (k : List ℤ) → k ≡ take d (drop (i * d) xs) → RowReady n z k table
-  row-ready i l k e = subst (λ (h : List ℤ). RowReady n z h table) (sym e) (part-ready i l)
+      at : RowPlace rows.d (row_count rows.d rows.numbers.now) rows.numbers.now k
+      at = row_out rows.d (row_count rows.d rows.numbers.now) rows.numbers.now k m
 
-  -- a row of the list, as an iterator gives it
-  pub listed-ready : (k : List ℤ) → Memᴰ k (index_list d xs) → RowReady n z k table
-  listed-ready k m = let at = row_out d (row_count d xs) xs k m in row-ready at.index at.inside k at.is
+      long : length k ≡ rows.d
+      long = row_long rows k m
+
+  -- the one that comes
+  pub row-ready : {j i : ℕ} {k : List ℤ} → Comes lattice.rows j i k → ReadyRow lattice k
+  row-ready {j} {i} {k} here = listed-ready k (row_listed here)
+
+  -- each that `all` calls a closure with
+  pub ready-served :
+      {P : Type 0} {R : P → Bor (List ℤ) → P → Type 0} {Q : P → Bor (List ℤ) → Type 0} {s : ChunksExact ℤ} {p : P} → FromFirst lattice.rows s
+      → ((k : Bor (List ℤ)) (q : P) → R p k q → q ≡ p) → ((k : Bor (List ℤ)) → ReadyRow lattice k.now → Q p k)
+      → CallableAtEachTurn (chunks_exact_steps {A = ℤ}) R Q s p
+  ready-served begins keeps serves = rows-served lattice.rows begins keeps (λ k m. serves k (listed-ready k.now m))

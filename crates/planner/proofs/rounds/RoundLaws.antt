@@ -34,7 +34,7 @@ stage-none s z w t v few begins solved size blank = record {
     begins = begins;
     below = λ j l. absurd (omega arith);
   };
-  sums = λ i e l h from to. zero_sum i e (omega arith) (omega (arith, t.differenced.arranged.bounded.few (s.task.rows.d * lasts)));
+  sums = λ i e l h from to. zero_sum i e (omega arith) (omega (arith, s.task.list.now.bounded.few (s.task.rows.d * lasts)));
   solutions = solved;
 }
   where

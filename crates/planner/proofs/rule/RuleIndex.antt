@@ -1,20 +1,21 @@
 -- The rules by numbers: rows of the list by their number, mirrors of a row by theirs. The loops of the check go by numbers, the
--- rules speak of members. Below the rules: what a loop's turn over a row or a mirror says of them.
+-- rules speak of members. Below the rules: what a loop's turn over a row or a mirror of a lattice's rows says of them.
 use mathlib.Core.Path.{◌≡◌, refl, sym, ◌∙◌, ap, subst}
 use mathlib.Core.Bool.{Bool, true, false, true≢false}
 use mathlib.Core.Logic.{◌↔◌, ◌≢◌, ⊎_elim}
 use mathlib.Core.List.{List, [], map, Memᴰ}
-use Prim.Native.Nat.{ℕ, zero, suc, ◌+◌, ◌-◌, ◌*◌, ◌<◌, ◌≤◌}
+use Prim.Native.Nat.{ℕ, zero, suc, ◌+◌, ◌-◌, ◌<◌, ◌≤◌}
 use native.Mathlib.Nat.{zero-mod}
 use native.Mathlib.Omega.{arith}
+use borrow.Author.Count.{below_more}
 use lib.IntN.{ℤ, pos}
-use lib.ListN.{length, get_or, take, drop, length-map, length-drop, get_or-map}
+use lib.ListN.{length, get_or, set, take, drop, length-map, length-drop, get_or-map}
 use lib.Seq.{length-take-le, get_or-take, get_or-drop}
-use Rattle.std.specs.Prelude.{Option, None}
+use Rattle.std.specs.Prelude.{Option, Some, None}
 use Rattle.std.specs.Option.{is_some}
 use Rattle.rank1.specs.Tests.{Decides}
 use Rattle.rank1.specs.Residue.{dot, residue_at}
-use Rattle.rank1.specs.Index.{mirrors, row_count, index_list}
+use Rattle.rank1.specs.Index.{mirrors, row_count}
 use Rattle.rank1.specs.declared.Plan.{Plan}
 use Rattle.rank1.specs.declared.Plan.TheVariants as plans
 use Rattle.rank1.specs.Named.{plan_number}
@@ -25,9 +26,11 @@ use Rattle.rank1.proofs.CountingLaws.{rule_reconstructs}
 use Rattle.rank1.proofs.Distinct.{member_at, place_of, distinct_at}
 use Rattle.rank1.proofs.Order.{compared}
 use Rattle.rank1.proofs.MirrorLaws.{mirror_self, mirrors_first, mirrors_distinct, same_row_lem}
-use Rattle.rank1.proofs.IndexLaws.{row_at_lem, rows-length}
-use Rattle.planner.specs.Inner.{Ready, Owners, Recorded, residue_of, clash}
-use Rattle.planner.proofs.rule.OwnerLaws.{Unowned, AllApart, decides_yes, decides_no, owners_clash, owners_apart, owner_free, owner_forbids}
+use Rattle.planner.specs.Inner.{Owners, Recorded, residue_of, clash}
+use Rattle.planner.specs.Lists.{rows_in, residue_by, Keeps}
+use Rattle.planner.specs.declared.lattice.Lattice.{Lattice}
+use Rattle.planner.proofs.RowLaws.{Comes, row_number, row_inside, rows_counted}
+use Rattle.planner.proofs.rule.OwnerLaws.{Unowned, AllApart, decides_yes, decides_no, owners_more, owners_clash, owners_apart, owner_free, owner_forbids}
 
 module _ {A : Type 0} (xs : List A) (x : A) where
   -- different places of a list without repeats
@@ -63,7 +66,7 @@ module _ (ks : List (List ℤ)) (n : ℕ) (z : List ℤ) where
   )
 
   -- ---- plans B and C
-  -- the mirrors of row i from number 1 on, up to number t, have the residue of no row that the plan keeps apart from row i
+  -- the mirrors of row i from number 1 on and below number t have the residue of no row that the plan keeps apart from row i
   abbrev pub MirrorsFree : (plan i t : ℕ) → Type 0
   MirrorsFree plan i t = (s : ℕ) → s < t → 1 ≤ s → Unowned row_residue plan (length ks) i (residue_at n z (mirror i s))
 
@@ -131,120 +134,165 @@ few_plans plans.A = omega arith
 few_plans plans.B = omega arith
 few_plans plans.C = omega arith
 
--- ---- row i of a run, as the loops take it
-module _ (d : ℕ) (xs : List ℤ) (i : ℕ) (l : i < row_count d xs) (k : List ℤ) (e : k ≡ take d (drop (i * d) xs)) where
-  -- it is row i of the list
-  pub row_number : k ≡ get_or (index_list d xs) i []
-  row_number = e ∙ sym (row_at_lem d (row_count d xs) xs i l)
+-- ---- the table of the owners of a lattice's rows
+module _ (lattice : Lattice) where
+  -- the residue of a row, by its number
+  abbrev pub residues : ℕ → ℕ
+  residues = residue_of lattice.n lattice.z.now (rows_in lattice.rows)
 
-  -- so a number that is the residue of it is the residue of row i
-  pub residue-number : (n : ℕ) (z : List ℕ) (r : ℕ) → r ≡ residue_at n (map pos z) k → r ≡ residue_of n z (index_list d xs) i
-  residue-number n z r q = q ∙ ap (residue_at n (map pos z)) row_number
+  -- it has the owners among the first i rows
+  abbrev pub Owned : ℕ → List (Option ℕ) → Type 0
+  Owned = Owners residues lattice.n
 
--- ---- recording the owners
-module _ (d : ℕ) (xs : List ℤ) (n : ℕ) (z table : List ℕ) (ready : Ready d xs n z table) (owners : List (Option ℕ)) where
-  -- every row is recorded
-  pub recorded_all : (i : ℕ) → i ≡ row_count d xs → Owners (residue_of n z (index_list d xs)) n i owners → Recorded n z (index_list d xs) owners true
-  recorded_all i e o = record {
-    all = λ _. subst (λ (m : ℕ). Owners (residue_of n z (index_list d xs)) n m owners) (e ∙ sym (rows-length d (row_count d xs) xs)) o;
-    clash = λ no rule. true≢false no;
+  -- what recording them gives
+  abbrev pub RecordedAs : List (Option ℕ) → Bool → Type 0
+  RecordedAs = Recorded lattice.n lattice.z.now (rows_in lattice.rows)
+
+  -- no two rows have one residue
+  abbrev RowsApart : Type 0
+  RowsApart = AllApart residues (length (rows_in lattice.rows))
+
+  rows_rule : Reconstructs (rows_in lattice.rows) lattice.n (map pos lattice.z.now) ↔ RowsApart
+  rows_rule = reconstructs_rows (rows_in lattice.rows) lattice.n (map pos lattice.z.now) lattice.rows.valid.different
+
+  module _ {owners : List (Option ℕ)} where
+    -- the number of the rows is the length of their list
+    owned_list : Owned (row_count lattice.rows.d lattice.rows.numbers.now) owners → Owned (length (rows_in lattice.rows)) owners
+    owned_list = subst (λ (m : ℕ). Owned m owners) (sym (rows_counted lattice.rows))
+
+    -- every row is recorded
+    pub recorded_all : {i : ℕ} → i ≡ row_count lattice.rows.d lattice.rows.numbers.now → Owned i owners → RecordedAs owners true
+    recorded_all e o = record { all = λ _. owned_list (subst (λ (m : ℕ). Owned m owners) e o); clash = λ no rule. true≢false no }
+
+    -- a row comes, whose residue is r
+    module _ {j i r : ℕ} {k : List ℤ} (here : Comes lattice.rows j i k) (is : r ≡ residue_by lattice k) (below : r < lattice.n) (before : Owned j owners) where
+      own : r ≡ residues i
+      own = is ∙ ap (residue_by lattice) (row_number here)
+
+      passed : Owned i owners
+      passed = subst (λ (m : ℕ). Owned m owners) (sym here.number) before
+
+      -- it has an owner
+      pub recorded_clash : is_some (get_or owners r None) ≡ true → RecordedAs owners false
+      recorded_clash taken = record {
+        all = λ yes. absurd {A = Owned (length (rows_in lattice.rows)) owners} (true≢false (sym yes));
+        clash = λ no rule.
+            owners_clash residues lattice.n i r (length (rows_in lattice.rows)) owners
+            (row_inside here) own below taken passed (rows_rule.0 rule);
+      }
+
+      -- it has none: the row becomes it
+      pub recorded_more : lattice.n ≤ length owners → is_some (get_or owners r None) ≡ false → Owned (j + 1) (set owners r (Some i))
+      recorded_more room free =
+          subst (λ (m : ℕ). Owned (m + 1) (set owners r (Some i))) here.number
+          (owners_more residues lattice.n i r owners room own below free passed)
+
+    -- ---- what recording them says of the plans but plan 0
+    module _ {r : Bool} (o : RecordedAs owners r) where
+      -- all are recorded
+      pub recorded_rows : r ≡ true → Owned (row_count lattice.rows.d lattice.rows.numbers.now) owners
+      recorded_rows e = subst (λ (m : ℕ). Owned m owners) (rows_counted lattice.rows) (o.all e)
+
+      -- it decides the rule of plan 1
+      pub recorded_decides : Decides r (Reconstructs (rows_in lattice.rows) lattice.n (map pos lattice.z.now))
+      recorded_decides = record {
+        yes = λ e. rows_rule.1 (owners_apart residues lattice.n (length (rows_in lattice.rows)) owners (o.all e));
+        no = o.clash;
+      }
+
+      -- two rows have one residue, so none of the plans holds
+      pub recorded_breaks : plan_number lattice.rows.plan ≢ 0 → r ≡ false → Decides false (Keeps lattice)
+      recorded_breaks some e =
+          decides_no (λ rule. o.clash e (rule_reconstructs (plan_number lattice.rows.plan) (rows_in lattice.rows) lattice.n (map pos lattice.z.now) some rule))
+
+-- ---- the mirrors of the rows
+module _ (lattice : Lattice) where
+  -- the mirrors of row i
+  abbrev pub mirrors_of : ℕ → List (List ℤ)
+  mirrors_of i = mirrors (get_or (rows_in lattice.rows) i [])
+
+  -- x is the residue of no row that the plan keeps apart from row i
+  abbrev pub Spared : ℕ → ℕ → Type 0
+  Spared = Unowned (residues lattice) (plan_number lattice.rows.plan) (length (rows_in lattice.rows))
+
+  -- the residues of row i's mirrors from number 1 on and below number t are spared
+  abbrev pub FreeBelow : ℕ → ℕ → Type 0
+  FreeBelow = MirrorsFree (rows_in lattice.rows) lattice.n (map pos lattice.z.now) (plan_number lattice.rows.plan)
+
+  -- those of all its mirrors from number 1 on
+  abbrev pub RowFree : ℕ → Type 0
+  RowFree i = FreeBelow i (length (mirrors_of i))
+
+-- x is the residue of mirror number t of row i
+pub record MirrorAt (lattice : Lattice) (i t x : ℕ) : Type 0 where
+  pub row_among : i < length (rows_in lattice.rows)
+  pub inside : t < length (mirrors_of lattice i)
+  pub is : x ≡ residue_by lattice (get_or (mirrors_of lattice i) t [])
+  pub below : x < lattice.n
+
+-- the residues behind the first, as a loop over them reads them
+abbrev pub later : List ℕ → List ℕ
+later out = take (length out - 1) (drop 1 out)
+
+later-length : (out : List ℕ) → length (later out) ≡ length out - 1
+later-length out = length-take-le (length out - 1) (drop 1 out) (omega (arith, length-drop 1 out))
+
+-- a row comes, and out has the residues of its mirrors
+module _ (lattice : Lattice) {j i : ℕ} {k : List ℤ} {out : List ℕ} (here : Comes lattice.rows j i k) (is_residues : out ≡ map (residue_by lattice) (mirrors k)) where
+  as_many : length out ≡ length (mirrors_of lattice i)
+  as_many = ap length is_residues ∙ length-map (mirrors k) (residue_by lattice) ∙ ap (λ (s : List ℤ). length (mirrors s)) (row_number here)
+
+  -- what is read at place t behind the first is that of mirror number t + 1
+  pub mirror_read : {x : ℕ} (t : ℕ) → t < length (later out) → x ≡ get_or (later out) t 0 → MirrorAt lattice i (t + 1) x
+  mirror_read {x} t l read = record {
+    row_among = row_inside here;
+    inside = omega (arith, l, later-length out, as_many);
+    is = is;
+    below = subst (λ (r : ℕ). r < lattice.n) (sym is) (residue-lt lattice.n (dot (get_or (mirrors_of lattice i) (t + 1) []) (map pos lattice.z.now)) lattice.ready.modulus.low);
   }
+    where
+      is : x ≡ residue_by lattice (get_or (mirrors_of lattice i) (t + 1) [])
+      is =
+          read
+          ∙ get_or-take (length out - 1) (drop 1 out) t 0 (omega (arith, l, later-length out))
+          ∙ get_or-drop 1 out t 0
+          ∙ ap (λ (a : ℕ). get_or out a 0) (omega arith)
+          ∙ ap (λ (rs : List ℕ). get_or rs (t + 1) 0) is_residues
+          ∙ ap (get_or (map (residue_by lattice) (mirrors k)) (t + 1)) (sym (zero-mod lattice.n))
+          ∙ get_or-map (residue_by lattice) (mirrors k) (t + 1) []
+          ∙ ap (λ (s : List ℤ). residue_by lattice (get_or (mirrors s) (t + 1) [])) (row_number here)
 
-  -- the residue of row i is owned
-  pub recorded_clash : (i r : ℕ) → i < row_count d xs → r ≡ residue_of n z (index_list d xs) i → r < n → is_some (get_or owners r None) ≡ true → Owners (residue_of n z (index_list d xs)) n i owners → Recorded n z (index_list d xs) owners false
-  recorded_clash i r l e below taken o = record {
-    all = λ yes. absurd {A = Owners (residue_of n z (index_list d xs)) n (length (index_list d xs)) owners} (true≢false (sym yes));
-    clash = λ no rule.
-        owners_clash (residue_of n z (index_list d xs)) n i r (length (index_list d xs)) owners
-        (omega (arith, rows-length d (row_count d xs) xs)) e below taken o
-        ((reconstructs_rows (index_list d xs) n (map pos z) ready.different).0 rule);
-  }
+  -- where all have been read, the row is free, as those before it
+  pub rows_free : ((a : ℕ) → a < j → RowFree lattice a) → FreeBelow lattice i (length (later out) + 1) → (a : ℕ) → a < j + 1 → RowFree lattice a
+  rows_free before free = below_more (RowFree lattice) j before (subst (RowFree lattice) here.number (λ t l. free t (omega (arith, later-length out, as_many))))
 
--- ---- what recording the owners says of the plans but plan 0
-module _ (d : ℕ) (xs : List ℤ) (n : ℕ) (z : List ℕ) (owners : List (Option ℕ)) where
-  -- all are recorded
-  pub recorded_rows : (r : Bool) → r ≡ true → Recorded n z (index_list d xs) owners r → Owners (residue_of n z (index_list d xs)) n (row_count d xs) owners
-  recorded_rows r e o = subst (λ (m : ℕ). Owners (residue_of n z (index_list d xs)) n m owners) (rows-length d (row_count d xs) xs) (o.all e)
+-- ---- plans B and C, where the owners of all rows are recorded
+module _ (lattice : Lattice) {owners : List (Option ℕ)} (o : Owned lattice (row_count lattice.rows.d lattice.rows.numbers.now) owners) where
+  -- the residue of one mirror more is read, and its owner does not forbid it
+  pub mirror-passes : {i t x : ℕ} → MirrorAt lattice i t x → clash (plan_number lattice.rows.plan) i (get_or owners x None) ≡ false → FreeBelow lattice i t → FreeBelow lattice i (t + 1)
+  mirror-passes {i} {t} {x} m f free =
+      below_more (λ (s : ℕ). 1 ≤ s → Spared lattice i (residue_by lattice (get_or (mirrors_of lattice i) s []))) t free
+      (λ _. subst (Spared lattice i) m.is
+      (owner_free (residues lattice) lattice.n (plan_number lattice.rows.plan) (length (rows_in lattice.rows)) i x owners (owned_list lattice o) f))
 
-  -- it decides the rule of plan 1
-  pub recorded_decides : (r : Bool) → Distinct (index_list d xs) → Recorded n z (index_list d xs) owners r → Decides r (Reconstructs (index_list d xs) n (map pos z))
-  recorded_decides r different o = record {
-    yes = λ e. (reconstructs_rows (index_list d xs) n (map pos z) different).1
-        (owners_apart (residue_of n z (index_list d xs)) n (length (index_list d xs)) owners (o.all e));
-    no = o.clash;
-  }
+  module _ (low : 3 ≤ plan_number lattice.rows.plan) where
+    -- the rule by numbers
+    by_mirrors : Keeps lattice ↔ (RowsApart lattice × AllFree (rows_in lattice.rows) lattice.n (map pos lattice.z.now) (plan_number lattice.rows.plan))
+    by_mirrors =
+        mirrors-rows (rows_in lattice.rows) lattice.n (map pos lattice.z.now) (plan_number lattice.rows.plan) low (few_plans lattice.rows.plan) lattice.rows.valid.different
+        (lattice.rows.valid.unsigned (omega arith))
 
-  -- two rows have one residue, so none of the plans holds
-  pub recorded_breaks : (plan : ℕ) (r : Bool) → plan ≢ 0 → r ≡ false → Recorded n z (index_list d xs) owners r → Decides false (Admissible plan (index_list d xs) n (map pos z))
-  recorded_breaks plan r some e o = decides_no (λ rule. o.clash e (rule_reconstructs plan (index_list d xs) n (map pos z) some rule))
+    -- no mirror passed was forbidden
+    pub mirrors_hold : ((i : ℕ) → i < row_count lattice.rows.d lattice.rows.numbers.now → RowFree lattice i) → Decides true (Keeps lattice)
+    mirrors_hold h =
+        decides_yes (by_mirrors.1 (
+          owners_apart (residues lattice) lattice.n (length (rows_in lattice.rows)) owners (owned_list lattice o),
+          (λ i li. h i (omega (arith, rows_counted lattice.rows))),
+        ))
 
--- ---- mirror number t of row i, with its residue x
-pub record MirrorAt (ks : List (List ℤ)) (n : ℕ) (z : List ℕ) (i t x : ℕ) : Type 0 where
-  pub inside : t < length (mirrors (row ks n (map pos z) i))
-  pub is : x ≡ residue_at n (map pos z) (mirror ks n (map pos z) i t)
-  pub below : x < n
-
--- it stands at place t of the residues of the row's mirrors
-pub mirror_at : (d : ℕ) (xs : List ℤ) (n : ℕ) (z : List ℕ) (i t : ℕ) (k : List ℤ) (out : List ℕ) → 1 ≤ n → i < row_count d xs → k ≡ take d (drop (i * d) xs) → out ≡ map (residue_at n (map pos z)) (mirrors k) → t < length out → MirrorAt (index_list d xs) n z i t (get_or out t 0)
-mirror_at d xs n z i t k out low l e residues lt = record {
-  inside = omega (arith, ap (λ (s : List ℤ). length (mirrors s)) (row_number d xs i l k e), ap length residues, length-map (mirrors k) (residue_at n (map pos z)));
-  is = is;
-  below = subst (λ (r : ℕ). r < n) (sym is) (residue-lt n (dot (mirror (index_list d xs) n (map pos z) i t) (map pos z)) low);
-}
-  where
-    is : get_or out t 0 ≡ residue_at n (map pos z) (mirror (index_list d xs) n (map pos z) i t)
-    is =
-        ap (λ (rs : List ℕ). get_or rs t 0) residues
-        ∙ ap (get_or (map (residue_at n (map pos z)) (mirrors k)) t) (sym (zero-mod n))
-        ∙ get_or-map (residue_at n (map pos z)) (mirrors k) t []
-        ∙ ap (λ (s : List ℤ). residue_at n (map pos z) (get_or (mirrors s) t [])) (row_number d xs i l k e)
-
--- ---- the residues behind the first, as a loop over them reads them
-module _ (out : List ℕ) where
-  pub rest-length : length (take (length out - 1) (drop 1 out)) ≡ length out - 1
-  rest-length = length-take-le (length out - 1) (drop 1 out) (omega (arith, length-drop 1 out))
-
-  pub rest_at : (t : ℕ) → t < length (take (length out - 1) (drop 1 out)) → get_or (take (length out - 1) (drop 1 out)) t 0 ≡ get_or out (t + 1) 0
-  rest_at t l =
-      get_or-take (length out - 1) (drop 1 out) t 0 (omega (arith, rest-length))
-      ∙ get_or-drop 1 out t 0
-      ∙ ap (λ (i : ℕ). get_or out i 0) (omega arith)
-
--- what the table of the owners of all rows says of it
-module _ (plan d : ℕ) (xs : List ℤ) (n : ℕ) (z : List ℕ) (owners : List (Option ℕ)) (o : Owners (residue_of n z (index_list d xs)) n (row_count d xs) owners) (i t x : ℕ) (m : MirrorAt (index_list d xs) n z i t x) where
-  -- the rows are those of the list
-  whole : Owners (residue_of n z (index_list d xs)) n (length (index_list d xs)) owners
-  whole = subst (λ (m : ℕ). Owners (residue_of n z (index_list d xs)) n m owners) (sym (rows-length d (row_count d xs) xs)) o
-
-  -- its owner does not forbid it
-  pub mirror-passes : clash plan i (get_or owners x None) ≡ false → Unowned (row_residue (index_list d xs) n (map pos z)) plan (length (index_list d xs)) i (residue_at n (map pos z) (mirror (index_list d xs) n (map pos z) i t))
-  mirror-passes f =
-      subst (Unowned (row_residue (index_list d xs) n (map pos z)) plan (length (index_list d xs)) i) m.is
-      (owner_free (row_residue (index_list d xs) n (map pos z)) n plan (length (index_list d xs)) i x owners whole f)
-
-  -- its owner forbids it
-  pub mirror_fails : clash plan i (get_or owners x None) ≡ true → 1 ≤ t → i < row_count d xs → AllFree (index_list d xs) n (map pos z) plan → ⊥
-  mirror_fails f low l free =
-      owner_forbids (row_residue (index_list d xs) n (map pos z)) n plan (length (index_list d xs)) i x owners whole m.below f
-      (subst (Unowned (row_residue (index_list d xs) n (map pos z)) plan (length (index_list d xs)) i) (sym m.is)
-      (free i (omega (arith, rows-length d (row_count d xs) xs)) t m.inside low))
-
--- ---- the answer of plans 3 and 4, where the owners of all rows are recorded
-module _ (plan d : ℕ) (xs : List ℤ) (n : ℕ) (z table : List ℕ) (owners : List (Option ℕ)) (ready : Ready d xs n z table) (low : 3 ≤ plan) (high : plan ≤ 4)
-    (unsigned : (k : List ℤ) → Memᴰ k (index_list d xs) → Nonnegative k) (o : Owners (residue_of n z (index_list d xs)) n (row_count d xs) owners) where
-  -- the rule by numbers
-  by_mirrors : Admissible plan (index_list d xs) n (map pos z) ↔ (AllApart (row_residue (index_list d xs) n (map pos z)) (length (index_list d xs)) × AllFree (index_list d xs) n (map pos z) plan)
-  by_mirrors = mirrors-rows (index_list d xs) n (map pos z) plan low high ready.different unsigned
-
-  -- no mirror passed was forbidden
-  pub mirrors_hold : ((i : ℕ) → i < row_count d xs → MirrorsFree (index_list d xs) n (map pos z) plan i (length (mirrors (row (index_list d xs) n (map pos z) i)))) → Decides true (Admissible plan (index_list d xs) n (map pos z))
-  mirrors_hold h =
-      let count = rows-length d (row_count d xs) xs in
-      decides_yes (by_mirrors.1 (
-        (λ a b la lb. owners_apart (row_residue (index_list d xs) n (map pos z)) n (row_count d xs) owners o a b (omega arith) (omega arith)),
-        (λ i li. h i (omega arith)),
-      ))
-
-  -- one was
-  pub mirrors_break : (AllFree (index_list d xs) n (map pos z) plan → ⊥) → Decides false (Admissible plan (index_list d xs) n (map pos z))
-  mirrors_break h = decides_no (λ rule. h (by_mirrors.0 rule).1)
+    -- one was
+    pub mirrors_break : {i t x : ℕ} → MirrorAt lattice i t x → 1 ≤ t → clash (plan_number lattice.rows.plan) i (get_or owners x None) ≡ true → Decides false (Keeps lattice)
+    mirrors_break {i} {t} {x} m later f =
+        decides_no (λ rule.
+        owner_forbids (residues lattice) lattice.n (plan_number lattice.rows.plan) (length (rows_in lattice.rows)) i x owners (owned_list lattice o) m.below f
+        (subst (Spared lattice i) (sym m.is) ((by_mirrors.0 rule).1 i m.row_among t m.inside later)))

@@ -3,10 +3,10 @@
 use mathlib.Core.Path.{◌≡◌, sym, ap, ◌∙◌, subst}
 use mathlib.Core.Bool.{Bool}
 use mathlib.Core.List.{List, map}
-use Prim.Native.Nat.{ℕ, ◌≤◌}
+use Prim.Native.Nat.{ℕ}
 use native.Mathlib.Omega.{arith}
 use lib.IntN.{ℤ, pos, ◌*ℤ◌}
-use lib.ListN.{length, get_or, take, get_or-eq_default}
+use lib.ListN.{length, take}
 use lib.Seq.{get_or-take, length-take-le}
 use Rattle.rank1.specs.Named.{plan_number}
 use Rattle.planner.specs.declared.search.Search.{Search}
@@ -23,7 +23,8 @@ use Rattle.planner.specs.Levels.{level_run, ending}
 use Rattle.planner.specs.Lists.{rows_in}
 use Rattle.planner.specs.Stage.{rule_of, Listed, Prefixed, NoneFrom, EndsHold}
 use Rattle.planner.proofs.products.ProductLaws.{prepared_up_to}
-use Rattle.planner.proofs.levels.LevelLaws.{LevelReady, level_ready, valid_long, zero_from_lem, ending-out}
+use Rattle.planner.proofs.CallLaws.{ready_whole}
+use Rattle.planner.proofs.levels.LevelLaws.{LevelReady, level_ready, zero_from_lem, ending-out}
 
 module _ (s : Search) (at : ℕ) (z products : List ℕ) (listed : Listed s.task) (prefix : Prefixed s at z products) (wide : length products ≡ product_room) where
   -- the components that are fixed
@@ -42,11 +43,6 @@ module _ (s : Search) (at : ℕ) (z products : List ℕ) (listed : Listed s.task
     pub ends_ready : Ready s.task.rows.d xs s.n (take at z) products
     ends_ready = record {
       modulus = prefix.modulus;
-      some_axes = s.task.rows.valid.some_axes;
-      few_axes = s.task.rows.valid.few_axes;
-      whole = level.valid.whole;
-      few_rows = level.valid.few_rows;
-      different = level.valid.different;
       short = omega (arith, fixed, prefix.within);
       ended = λ k m. subst (λ (j : ℕ). ZeroFrom j k) (sym fixed) (level.ended k m);
       prepared = prepared_up_to s.n s.task.listing.top (take at z) xs products level.covers (record {
@@ -57,7 +53,7 @@ module _ (s : Search) (at : ℕ) (z products : List ℕ) (listed : Listed s.task
     }
 
     ends_are : index_list s.task.rows.d xs ≡ ending at (rows_in s.task.rows)
-    ends_are = ap (index_list s.task.rows.d) is ∙ (listed.ends.level at prefix.within).rows
+    ends_are = ap (index_list s.task.rows.d) is ∙ (listed.ends.level at (omega (arith, prefix.within))).rows
 
     -- where they fail, nothing that begins so meets the rule
     ends_none : (Admissible (plan_number s.task.rows.plan) (ending at (rows_in s.task.rows)) s.n (map pos (take at z)) → ⊥) → NoneFrom (rule_of s.task.rows) s.task.rows.d s.n at z
@@ -77,20 +73,4 @@ module _ (s : Search) (at : ℕ) (z products : List ℕ) (listed : Listed s.task
 -- ---- all components are fixed: the whole list
 module _ (s : Search) (z products : List ℕ) (listed : Listed s.task) (prefix : Prefixed s s.task.rows.d z products) (wide : length products ≡ product_room) where
   pub list-ready : Ready s.task.rows.d s.task.rows.numbers.now s.n z products
-  list-ready = record {
-    modulus = prefix.modulus;
-    some_axes = s.task.rows.valid.some_axes;
-    few_axes = s.task.rows.valid.few_axes;
-    whole = s.task.rows.valid.whole;
-    few_rows = s.task.rows.valid.few_rows;
-    different = s.task.rows.valid.different;
-    short = omega (arith, prefix.size);
-    ended = λ k m i l. beyond k (omega (arith, valid_long (plan_number s.task.rows.plan) s.task.rows.d s.task.rows.numbers.now s.task.rows.valid k m, prefix.size));
-    prepared = prepared_up_to s.n s.task.listing.top z s.task.rows.numbers.now products listed.covers (record {
-      size = wide;
-      entry = λ j x l b. prefix.entries j x (omega (arith, prefix.size)) b;
-    });
-  }
-    where
-      beyond : {i : ℕ} (k : List ℤ) → length k ≤ i → get_or k i (pos 0) ≡ pos 0
-      beyond {i} k l = get_or-eq_default k (pos 0) {n = i} l
+  list-ready = ready_whole s.task.rows prefix.modulus prefix.size listed.covers (record { size = wide; entry = λ j x l b. prefix.entries j x (omega (arith, prefix.size)) b })

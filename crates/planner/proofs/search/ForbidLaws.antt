@@ -57,7 +57,7 @@ module _ (s : Search) (before : ℕ) (z sums products : List ℕ) (fixed : Fixed
       listed = fixed.tabled.differenced.arranged.listed (suc before) f.last f.which within f.small f.from f.to
 
       rise : (a c : ℕ) → a ≤ c → c ≤ axes * lasts → get_or s.task.list.now.bounds a 0 ≤ get_or s.task.list.now.bounds c 0
-      rise = bounds_rise s.task.list.now.bounds fixed.tabled.differenced.arranged.bounded
+      rise = bounds_rise s.task.list.now.bounds s.task.list.now.bounded
 
       few : s.task.rows.d ≤ axes
       few = s.task.rows.valid.few_axes

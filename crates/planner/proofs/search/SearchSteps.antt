@@ -225,7 +225,7 @@ module _
           pub stage_next : r ≡ true → Stage s (at + 1) x w₃
           stage_next =
               stage_tried s at v z' w' looped within less x w₃ r tried
-              (sums_kept s at z z' w₂.sums w'.sums stage.fixed.tabled.differenced.arranged.bounded passed.kept.begins passed.sums sums-known)
+              (sums_kept s at z z' w₂.sums w'.sums passed.kept.begins passed.sums sums-known)
 
           kept-tried : KeptBefore at z' w' x w₃
           kept-tried = kept_tried s at v z' w' looped within less x w₃ r tried

@@ -17,9 +17,9 @@ use Rattle.rank1.specs.Residue.{residue, dot, residue_at}
 use Rattle.rank1.specs.Axes.{Agree}
 use Rattle.rank1.proofs.ResidueLaws.{residue-lt}
 use Rattle.rank1.proofs.DifferenceLaws.{part_agrees}
-use Rattle.planner.specs.Sizes.{axes, lasts, room, places, product_room, largest_size}
+use Rattle.planner.specs.Sizes.{axes, lasts, room, places, largest_size}
 use Rattle.planner.specs.Inner.{place, KeptBelow, Covered, AxisSet}
-use Rattle.planner.specs.Runs.{column, Bounds}
+use Rattle.planner.specs.Runs.{column}
 use Rattle.planner.specs.Sieve.{Readable}
 use Rattle.planner.specs.Stage.{Tabled, Prefixed, SumsTo, Summable, SumsAdded, Siftable, Sifted, Triable, Tried, Stage, KeptBefore}
 use Rattle.planner.proofs.products.ProductLaws.{place-lt, covered_wider}
@@ -49,9 +49,9 @@ prefixed-kept s at z₀ p₀ z p narrow lz same kept f = record {
 
 -- the sums up to section k stay
 pub sums_kept :
-    (s : Search) (k : ℕ) (z₀ z old new : List ℕ) → Bounds s.task.list.now.bounds → Agree k z z₀ → KeptBelow 0 ((k + 1) * room) old new → SumsTo s k z₀ old → SumsTo s k z new
-sums_kept s k z₀ z old new bounded same kept known i a l h from to =
-    kept (i * room + a) (omega (arith, bounded.few (s.task.rows.d * lasts)))
+    (s : Search) (k : ℕ) (z₀ z old new : List ℕ) → Agree k z z₀ → KeptBelow 0 ((k + 1) * room) old new → SumsTo s k z₀ old → SumsTo s k z new
+sums_kept s k z₀ z old new same kept known i a l h from to =
+    kept (i * room + a) (omega (arith, s.task.list.now.bounded.few (s.task.rows.d * lasts)))
     ∙ known i a l h from to
     ∙ sym (part_kept s.n k i (column s.task.rows.d s.task.list.now.components a) z z₀ l same)
 
@@ -69,7 +69,7 @@ stage_kept s at z w z' w' k g = record {
     below = λ j l. omega (arith, k.begins j l, g.fixed.below j l);
   };
   sums =
-      sums_kept s (at - 1) z z' w.sums w'.sums tabled.differenced.arranged.bounded (λ i l. k.begins i (omega arith)) k.sums g.sums;
+      sums_kept s (at - 1) z z' w.sums w'.sums (λ i l. k.begins i (omega arith)) k.sums g.sums;
   solutions = g.solutions;
 }
   where
@@ -127,14 +127,10 @@ module _ (s : Search) (at v : ℕ) (z : List ℕ) (within : at < s.task.rows.d) 
 -- differences whose sums up to axis j are known
 pub readable :
     (s : Search) (j : ℕ) (z : List ℕ) (w : Work) (from to : ℕ) → Prefixed s (j + 1) z w.products → Covered s.task.listing.top s.task.list.now.components
-    → length s.task.list.now.components ≡ axes * room → length w.products ≡ product_room → length w.sums ≡ axes * room
     → j + 1 < axes → to ≤ room → ((e : ℕ) → from ≤ e → e < to → get_or w.sums (j * room + e) 0 < s.n) → Readable s.n j s.task.list.now.components w.products w.sums from to
-readable s j z w from to f small wide tabled summed inner within below = record {
+readable s j z w from to f small inner within below = record {
   modulus = f.modulus;
   inner = omega arith;
-  wide = wide;
-  tabled = tabled;
-  summed = summed;
   small = covered_wider s.task.listing.top largest_size s.task.list.now.components small.narrow (omega arith) small;
   within = within;
   sums_below = below;
@@ -155,24 +151,21 @@ sum_below s at i e z sums some known l h from to =
 
 -- what setting a section of the sums asks
 pub summable :
-    (s : Search) (at : ℕ) (z : List ℕ) (w : Work) → Stage s at z w → at < s.task.rows.d → length w.products ≡ product_room → length w.sums ≡ axes * room → Summable s at w
-summable s at z w g within wide summed = record {
+    (s : Search) (at : ℕ) (z : List ℕ) (w : Work) → Stage s at z w → at < s.task.rows.d → Summable s at w
+summable s at z w g within = record {
   within = within;
   few_axes = s.task.rows.valid.few_axes;
   readable = λ before e l.
       readable s before z w (get_or s.task.list.now.bounds ((at + 1) * lasts) 0) (get_or s.task.list.now.bounds (s.task.rows.d * lasts) 0)
-      (subst (λ (k : ℕ). Prefixed s k z w.products) (e ∙ sym (add-one before)) g.fixed.prefix) tabled.differenced.small tabled.differenced.arranged.wide wide summed
-      (omega (arith, s.task.rows.valid.few_axes)) (bounded.few (s.task.rows.d * lasts))
+      (subst (λ (k : ℕ). Prefixed s k z w.products) (e ∙ sym (add-one before)) g.fixed.prefix) tabled.differenced.small
+      (omega (arith, s.task.rows.valid.few_axes)) (s.task.list.now.bounded.few (s.task.rows.d * lasts))
       (λ a from to.
       sum_below s (at - 1) before a z w.sums g.fixed.prefix.modulus.low g.sums (omega arith) (omega arith)
-      (omega (arith, bounds_rise s.task.list.now.bounds bounded ((before + 1) * lasts) ((at + 1) * lasts) (omega arith) (omega (arith, s.task.rows.valid.few_axes)))) to);
+      (omega (arith, bounds_rise s.task.list.now.bounds s.task.list.now.bounded ((before + 1) * lasts) ((at + 1) * lasts) (omega arith) (omega (arith, s.task.rows.valid.few_axes)))) to);
 }
   where
     tabled : Tabled s.task
     tabled = g.fixed.tabled
-
-    bounded : Bounds s.task.list.now.bounds
-    bounded = tabled.differenced.arranged.bounded
 
 -- section at is set: the sums up to it are known
 pub sums_more :
@@ -180,14 +173,11 @@ pub sums_more :
     → SumsAdded s at w w' → SumsTo s at z w'.sums
 sums_more s at z w w' g within added = go at refl
   where
-    bounded : Bounds s.task.list.now.bounds
-    bounded = g.fixed.tabled.differenced.arranged.bounded
-
     few : s.task.rows.d ≤ axes
     few = s.task.rows.valid.few_axes
 
     kept : SumsTo s (at - 1) z w'.sums
-    kept = sums_kept s (at - 1) z z w.sums w'.sums bounded (λ i l. refl) added.kept g.sums
+    kept = sums_kept s (at - 1) z z w.sums w'.sums (λ i l. refl) added.kept g.sums
 
     -- behind the first axis the last section is new
     last :
@@ -196,7 +186,7 @@ sums_more s at z w w' g within added = go at refl
     last before a e from to =
         added.added before a e from to
         ∙ part-is s before z w.sums w.products (subst (λ (k : ℕ). Prefixed s k z w.products) (e ∙ sym (add-one before)) g.fixed.prefix) g.fixed.tabled.differenced.small (omega arith) a
-        (g.sums before a (omega arith) (omega arith) (omega (arith, bounds_rise s.task.list.now.bounds bounded ((before + 1) * lasts) ((at + 1) * lasts) (omega arith) (omega arith))) to)
+        (g.sums before a (omega arith) (omega arith) (omega (arith, bounds_rise s.task.list.now.bounds s.task.list.now.bounded ((before + 1) * lasts) ((at + 1) * lasts) (omega arith) (omega arith))) to)
         ∙ ap (λ (k : ℕ). residue_at s.n (map pos z) (take k (column s.task.rows.d s.task.list.now.components a))) (sym e)
 
     go : (k : ℕ) → at ≡ k → SumsTo s at z w'.sums
@@ -234,31 +224,26 @@ kept-sums s at z w w' added = record {
 
 -- what the sieve asks
 pub siftable :
-    (s : Search) (at : ℕ) (z : List ℕ) (w : Work) → Stage s at z w → at < s.task.rows.d → length w.products ≡ product_room → length w.sums ≡ axes * room → Siftable s at w
-siftable s at z w g within wide summed = record {
+    (s : Search) (at : ℕ) (z : List ℕ) (w : Work) → Stage s at z w → at < s.task.rows.d → Siftable s at w
+siftable s at z w g within = record {
   modulus = g.fixed.prefix.modulus;
-  bounded = bounded;
   short = tabled.differenced.tails;
   solved = g.solutions;
   sievable = λ before e. record {
-    bounded = bounded;
     solved = g.solutions;
     readable =
         readable s before z w (get_or s.task.list.now.bounds (suc before * lasts) 0) (get_or s.task.list.now.bounds (suc (suc before) * lasts) 0)
-        (subst (λ (k : ℕ). Prefixed s k z w.products) (e ∙ sym (add-one before)) g.fixed.prefix) tabled.differenced.small tabled.differenced.arranged.wide wide summed
-        (omega (arith, few)) (bounded.few (suc (suc before) * lasts))
+        (subst (λ (k : ℕ). Prefixed s k z w.products) (e ∙ sym (add-one before)) g.fixed.prefix) tabled.differenced.small
+        (omega (arith, few)) (s.task.list.now.bounded.few (suc (suc before) * lasts))
         (λ a from to.
         sum_below s (at - 1) before a z w.sums g.fixed.prefix.modulus.low g.sums (omega arith) (omega arith)
         (omega (arith, ap (λ (k : ℕ). get_or s.task.list.now.bounds (k * lasts) 0) (add-one before)))
-        (omega (arith, bounds_rise s.task.list.now.bounds bounded (suc (suc before) * lasts) (s.task.rows.d * lasts) (omega arith) (omega (arith, few)))));
+        (omega (arith, bounds_rise s.task.list.now.bounds s.task.list.now.bounded (suc (suc before) * lasts) (s.task.rows.d * lasts) (omega arith) (omega (arith, few)))));
   };
 }
   where
     tabled : Tabled s.task
     tabled = g.fixed.tabled
-
-    bounded : Bounds s.task.list.now.bounds
-    bounded = tabled.differenced.arranged.bounded
 
     few : s.task.rows.d ≤ axes
     few = s.task.rows.valid.few_axes
@@ -294,7 +279,7 @@ module _ (s : Search) (at v : ℕ) (z : List ℕ) (w : Work) (g : Stage s at z w
       sums =
           subst (λ (k : ℕ). SumsTo s k z' w'.sums) before
           (subst (λ (x : List ℕ). SumsTo s at z' x) (sym (ap (λ (x : Work). x.sums) t.only))
-          (sums_kept s at z z' w.sums w.sums g.fixed.tabled.differenced.arranged.bounded begins (λ i l. refl) summed));
+          (sums_kept s at z z' w.sums w.sums begins (λ i l. refl) summed));
       solutions = g.solutions;
     }
       where

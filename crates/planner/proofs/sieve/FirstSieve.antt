@@ -35,10 +35,9 @@ module _ (n : ℕ) (bounds : List ℕ) where
   first_all old clean new e none s = record { size = s.size ∙ e; reason = λ v l m. ⊎_elim (λ q. absurd (false≢true (sym (none v l) ∙ q))) (λ f. f) (s.reason v l m) }
 
 -- the steps of the tables of solutions are periods
-pub periods : (n : ℕ) (M : ModulusTables) → SolutionsOf n M → Periods n M.steps
-periods n M s = record {
-  size = s.steps-size;
-  some = λ t step l e. (s.tables t step l e).right.some;
-  few = λ t step l e. (s.tables t step l e).right.few;
-  period = λ t step l e. (s.tables t step l e).right.period;
+pub periods : (n : ℕ) (M : ModulusTables) → SolutionsOf n M → Periods n M.solved
+periods n M f = record {
+  some = λ t s l e. (f t s l e).right.some;
+  few = λ t s l e. (f t s l e).right.few;
+  period = λ t s l e. (f t s l e).right.period;
 }

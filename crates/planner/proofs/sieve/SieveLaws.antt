@@ -12,12 +12,21 @@ use lib.ListN.{length, get_or, set, drop, length-set}
 use lib.Seq.{get_or-take, get_or-set_same, get_or-set_other}
 use mir.Syntax.{w16}
 use mir.Val.{to_z, of_z}
+use Rattle.std.specs.Iterator.{Yields}
+use Rattle.std.specs.Iterator.Adapters.{zip_first, zip_second}
+use Rattle.std.specs.Slice.Iter.{iter_rest}
+use Rattle.std.specs.declared.iter.Zip.{Zip}
+use Rattle.std.proofs.Common.{Bor, Iter, Some}
+use Rattle.std.proofs.lemmas.Fn.{fronts}
+use Rattle.std.proofs.lemmas.Iterator.{zips}
+use Rattle.std.proofs.lemmas.Slice.Zip.{zip_turn}
 use Rattle.planner.specs.Inner.{place}
-use Rattle.planner.specs.Sizes.{axes, largest_modulus, lasts, places, room, largest_size}
+use Rattle.planner.specs.Sizes.{axes, largest_modulus, lasts, places, product_room, room, largest_size}
 use Rattle.planner.specs.declared.sieve.Run.{Run}
 use Rattle.planner.specs.declared.tables.ListTables.{ListTables}
 use Rattle.planner.specs.declared.tables.ModulusTables.{ModulusTables}
-use Rattle.planner.specs.Sieve.{Marked, Steps, Marking, Solutions, SolutionsSet, TableAt, product, part, PartsReady, Solves, Struck, product_at, part_at, SumsSet, RunStart, Sievable, Forbidden, Barred, AllBarred, Sieved}
+use Rattle.planner.specs.declared.tables.Solved.{Solved}
+use Rattle.planner.specs.Sieve.{Marked, Steps, Marking, Solutions, SolutionsSet, TableAt, product, part, PartsReady, Solves, Struck, product_at, part_at, SumsSet, Strikable, RunStart, MarkedFor, Sievable, Forbidden, Sieved}
 use Rattle.planner.proofs.products.ProductLaws.{read_back, place-lt}
 use Rattle.planner.proofs.runs.RunLaws.{bounds_rise}
 use Rattle.planner.proofs.sieve.Parts.{cut, cut-size, cut_at, pasted, pasted-size, pasted-before, pasted_at}
@@ -79,15 +88,6 @@ module _ (r : Run) where
   solution_right c i v s e b f o =
       ap (λ (x : ℕ). (x + r.t * v) % r.n) (sym e) ∙ ap (λ (x : ℕ). (c + r.t * x) % r.n) f ∙ s.right c b (subst (λ (x : ℕ). x < r.n) f o)
 
-  -- the part of difference i, as the code finds it from a sum and a component that it reads in turn
-  pub part_read :
-      (i c s : ℕ) (x : ℤ) → PartsReady r → i < length r.sums.now → s ≡ get_or r.sums.now i 0 → x ≡ get_or r.components.now i (pos 0)
-      → c ≡ (s + get_or r.products.now (place (to_z w16 (of_z w16 x))) 0) % r.n → c ≡ part r i
-  part_read i c s x ready l read same e =
-      e
-      ∙ ap (λ (y : ℤ). (s + get_or r.products.now (place y) 0) % r.n) (read_back x (rw same (ready.small i l)) ∙ same)
-      ∙ ap (λ (k : ℕ). (k + product r i) % r.n) read
-
   -- the marks of all solutions for the part of difference i
   pub struck_more : (old new newer : List Bool) (c i v : ℕ) → SolutionsSet r.n r.t r.step r.solutions.now → i < length r.sums.now → c ≡ part r i → c < r.n → v ≡ get_or r.solutions.now c 0 → Marking v r.step new newer → Struck r old new → Struck r old newer
   struck_more old new newer c i v set l e b f m s = record { size = m.size ∙ s.size; reason = λ w o q. go w o (m.reason w q) }
@@ -100,10 +100,24 @@ module _ (r : Run) where
         solved = steps_solve r.n r.t (part r i) v r.step w set.period q (solution_right c i v set.table e b f (omega (arith, q.1)));
       }
 
+  -- one turn more of a loop over the sums and the components side by side: behind the pairs xs stands p, that of a difference of the run. So c, which the
+  -- code finds from p, is the part of this difference, and the marks made are its solutions
+  pub struck_turn :
+      (xs : List (Bor ℕ × Bor ℤ)) (s t u : Zip (Iter ℕ) (Iter ℤ)) (p : Bor ℕ × Bor ℤ) {old new newer : List Bool} {c k v : ℕ}
+      → Yields (zips fronts fronts) s xs t → zips fronts fronts t (Some p) u → (iter_rest (zip_first s) ≡ r.sums.now) × (iter_rest (zip_second s) ≡ r.components.now)
+      → Strikable r old → (c ≡ (p.0.now + get_or r.products.now (place (to_z w16 (of_z w16 p.1.now))) 0) % r.n) × (c < r.n)
+      → k ≡ c → v ≡ get_or r.solutions.now k 0 → Marking v r.step new newer → Struck r old new → Struck r old newer
+  struck_turn xs s t u p {old} {new} {newer} {c} {k} {v} y steps whole ready found e f =
+      let turn = zip_turn r.sums.now r.components.now xs s t u (Some p) whole.0 whole.1 y p refl steps in
+      let back = read_back p.1.now (rw (turn.3 (pos 0)) (ready.parts.small (length xs) turn.0)) in
+      let same : c ≡ part r (length xs) = cc (turn.2 0, turn.3 (pos 0)) in
+      struck_more old new newer c (length xs) v ready.solved turn.0 same found.1 (cc)
+
 -- ---- the run of the differences that end with component t at the axis behind axis j, as a part of the tables
 module _
     (r : Run) (j : ℕ) (T : ListTables) (products sums : List ℕ) (M : ModulusTables)
-    (s : Sievable r.n j T products sums M) (short : r.t < lasts)
+    (s : Sievable r.n j T products sums M) (wide : length T.components ≡ axes * room) (tabled : length products ≡ product_room) (summed : length sums ≡ axes * room)
+    (short : r.t < lasts)
     (begin end : ℕ) (b : RunStart T.bounds j r.t begin) (e : RunStart T.bounds j (r.t + 1) end)
     (sums_cut : r.sums.now ≡ cut begin end sums) (components_cut : r.components.now ≡ cut begin end T.components)
     (products_cut : r.products.now ≡ cut (j * places) (j * places + places) products)
@@ -122,7 +136,7 @@ module _
 
     -- its differences are among those of the axis
     low : (i : ℕ) → get_or T.bounds (suc j * lasts) 0 ≤ number i
-    low i = omega (arith, bounds_rise T.bounds s.bounded (suc j * lasts) (suc j * lasts + r.t) (omega arith) (omega (arith, short, s.readable.inner)))
+    low i = omega (arith, bounds_rise T.bounds T.bounded (suc j * lasts) (suc j * lasts + r.t) (omega arith) (omega (arith, short, s.readable.inner)))
 
     inside : (i : ℕ) → i < end - begin → number i < get_or T.bounds (suc (suc j * lasts + r.t)) 0
     inside i l = omega (arith, b.is, e.is, next)
@@ -133,7 +147,7 @@ module _
           arith,
           short,
           inside i l,
-          bounds_rise T.bounds s.bounded (suc (suc j * lasts + r.t)) (suc (suc j) * lasts) (omega (arith, short)) (omega (arith, s.readable.inner)),
+          bounds_rise T.bounds T.bounded (suc (suc j * lasts + r.t)) (suc (suc j) * lasts) (omega (arith, short)) (omega (arith, s.readable.inner)),
         )
 
     -- its components and sums are those of its differences
@@ -164,14 +178,14 @@ module _
 
     -- so many differences
     run-size : length r.sums.now ≡ end - begin
-    run-size = ap length sums_cut ∙ cut-size begin end sums (omega (arith, e.inside, s.readable.summed))
+    run-size = ap length sums_cut ∙ cut-size begin end sums (omega (arith, e.inside, summed))
 
     -- it is ready to be struck by
     pub run-ready : PartsReady r
     run-ready = record {
       modulus = s.readable.modulus;
-      paired = ap length components_cut ∙ cut-size begin end T.components (omega (arith, e.inside, s.readable.wide)) ∙ sym run-size;
-      table = ap length products_cut ∙ cut-size (j * places) (j * places + places) products (omega (arith, s.readable.tabled, s.readable.inner)) ∙ omega arith;
+      paired = ap length components_cut ∙ cut-size begin end T.components (omega (arith, e.inside, wide)) ∙ sym run-size;
+      table = ap length products_cut ∙ cut-size (j * places) (j * places + places) products (omega (arith, tabled, s.readable.inner)) ∙ omega arith;
       small = λ i l. subst (λ (x : ℤ). nat_abs x ≤ largest_size) (sym (same_component i (inner i l))) (s.readable.small.covered (j * room + number i));
       sums_below = λ i l. subst (λ (x : ℕ). x < r.n) (sym (same_sum i (inner i l))) (s.readable.sums_below (number i) (low i) (high i (inner i l)));
       products_below = λ i l. subst (λ (x : ℕ). x < r.n) (sym (same_product i (inner i l))) (s.readable.products_below (number i) (low i) (high i (inner i l)));
@@ -181,7 +195,7 @@ module _
         inner i l = omega (arith, run-size)
 
     -- what it strikes is forbidden
-    pub run_bars : (old new : List Bool) → Struck r old new → Barred r.n j T products sums old new
+    pub run_bars : (old new : List Bool) → Struck r old new → MarkedFor r.n (Forbidden r.n j T products sums) old new
     run_bars old new k = record { size = k.size; reason = λ v l m. go v (k.reason v l m) }
       where
         go : (v : ℕ) → Marked old v ⊎ Solves r v → Marked old v ⊎ Forbidden r.n j T products sums v
@@ -197,20 +211,20 @@ module _
 
 -- ---- all runs of an axis
 -- the table of t is the part of n numbers from its start on
-pub table-cut : (n t start step r : ℕ) (solutions : List ℕ) → r ≡ n → TableAt n t start step solutions → SolutionsSet n t step (cut start (start + r) solutions)
-table-cut n t start step r solutions e s =
-    table_same n t step (drop start solutions) (cut start (start + r) solutions)
-    (omega (arith, cut-size start (start + r) solutions (omega (arith, s.inside))))
-    (λ c b. get_or-take (start + r - start) (drop start solutions) c 0 (omega arith))
+pub table-cut : (n t r : ℕ) (u : Solved) (solutions : List ℕ) → r ≡ n → TableAt n t u solutions → SolutionsSet n t u.step (cut u.start (u.start + r) solutions)
+table-cut n t r u solutions e s =
+    table_same n t u.step (drop u.start solutions) (cut u.start (u.start + r) solutions)
+    (omega (arith, cut-size u.start (u.start + r) solutions (omega (arith, s.inside))))
+    (λ c b. get_or-take (u.start + r - u.start) (drop u.start solutions) c 0 (omega arith))
     s.right
 
-module _ (n j : ℕ) (T : ListTables) (products sums : List ℕ) where
-  -- one run after others
-  pub barred_more : (old new newer : List Bool) → Barred n j T products sums old new → Barred n j T products sums new newer → Barred n j T products sums old newer
-  barred_more old new newer s k = record { size = k.size ∙ s.size; reason = λ v l m. ⊎_elim (s.reason v l) inr (k.reason v l m) }
+-- one run after others
+pub barred_more : (n : ℕ) (X : ℕ → Type 0) (old new newer : List Bool) → MarkedFor n X old new → MarkedFor n X new newer → MarkedFor n X old newer
+barred_more n X old new newer s k = record { size = k.size ∙ s.size; reason = λ v l m. ⊎_elim (s.reason v l) inr (k.reason v l m) }
 
+module _ (n j : ℕ) (T : ListTables) (products sums : List ℕ) where
   -- the marks of one axis put back among all marks
-  pub sieved : (old marks : List Bool) (k : ℕ) → suc j < axes → k ≡ suc n → n ≤ largest_modulus → length old ≡ suc (axes * largest_modulus) → length marks ≡ k → AllBarred n j T products sums marks → Sieved n j T products sums old (pasted ((j + 1) * largest_modulus) k old marks)
+  pub sieved : (old marks : List Bool) (k : ℕ) → suc j < axes → k ≡ suc n → n ≤ largest_modulus → length old ≡ suc (axes * largest_modulus) → length marks ≡ k → ((v : ℕ) → v < n → Marked marks v → Forbidden n j T products sums v) → Sieved n j T products sums old (pasted ((j + 1) * largest_modulus) k old marks)
   sieved old marks k a e h size same s = record {
     size = pasted-size ((j + 1) * largest_modulus) k old marks fits same;
     kept = λ i l. pasted-before ((j + 1) * largest_modulus) k old marks fits same false i (omega arith);

@@ -1,8 +1,8 @@
 -- Solutions of c + t v = 0 modulo n: the walk that sets their table, and the steps between them.
 use mathlib.Core.Path.{◌≡◌, sym, ◌∙◌, ap, subst}
-use mathlib.Core.Logic.{◌≢◌}
 use mathlib.Core.List.{List, ◌++◌}
-use Rattle.std.proofs.Common.{Option, Some, None}
+use Rattle.std.proofs.Common.{Some, None}
+use Rattle.std.proofs.lemmas.Option.{same_Some}
 use Prim.Native.Nat.{ℕ, suc, ◌+◌, ◌*◌, ◌-◌, ◌%◌, ◌<◌, ◌≤◌}
 use native.Mathlib.Nat.{zero-add, zero-mul, zero-mod, mul-one, mul-add, mul_assoc, add-mod, add-mod-mod, mod-add-mod, add_assoc, mul-zero, mul-suc, mod_self}
 use native.Mathlib.Decide.{ℕ_discrete}
@@ -11,6 +11,7 @@ use lib.ListN.{length, get_or, set, drop, length-set, length-drop, length-append
 use lib.Seq.{get_or-drop, get_or-set_same, get_or-set_other}
 use Rattle.rank1.proofs.Modulo.{mod-mul_left}
 use Rattle.planner.specs.declared.tables.ModulusTables.{ModulusTables}
+use Rattle.planner.specs.declared.tables.Solved.{Solved}
 use Rattle.planner.specs.Sieve.{Steps, Solutions, SolutionsSet, TableAt, TablesTo}
 use Rattle.planner.specs.Sizes.{lasts, solution_room}
 use Rattle.planner.proofs.sieve.Parts.{pasted, pasted-size, pasted-before, pasted_at}
@@ -115,7 +116,7 @@ table_same n t step xs ys l same s = record {
 }
 
 -- the table of t, where a part that holds it was put in place
-pub table-pasted : (n t at k step : ℕ) (xs part : List ℕ) → k ≡ n → at + k ≤ length xs → length part ≡ k → SolutionsSet n t step part → TableAt n t at step (pasted at k xs part)
+pub table-pasted : (n t at k step : ℕ) (xs part : List ℕ) → k ≡ n → at + k ≤ length xs → length part ≡ k → SolutionsSet n t step part → TableAt n t (record { start = at; step = step }) (pasted at k xs part)
 table-pasted n t at k step xs part e within size s = record {
   inside = inner;
   right =
@@ -127,63 +128,44 @@ table-pasted n t at k step xs part e within size s = record {
     inner = omega (arith, pasted-size at k xs part within size)
 
 -- a table that stands before the part
-pub table_kept : (n t start at k step : ℕ) (xs part : List ℕ) → start + n ≤ at → at + k ≤ length xs → length part ≡ k → TableAt n t start step xs → TableAt n t start step (pasted at k xs part)
-table_kept n t start at k step xs part l within size s = record {
+pub table_kept : (n t at k : ℕ) (u : Solved) (xs part : List ℕ) → u.start + n ≤ at → at + k ≤ length xs → length part ≡ k → TableAt n t u xs → TableAt n t u (pasted at k xs part)
+table_kept n t at k u xs part l within size s = record {
   inside = inner;
   right =
-      table_same n t step (drop start xs) (drop start (pasted at k xs part)) (simp length-drop (omega (arith, inner)))
-      (λ c b. get_or-drop start (pasted at k xs part) c 0 ∙ pasted-before at k xs part within size 0 (start + c) (omega arith) ∙ sym (get_or-drop start xs c 0))
+      table_same n t u.step (drop u.start xs) (drop u.start (pasted at k xs part)) (simp length-drop (omega (arith, inner)))
+      (λ c b. get_or-drop u.start (pasted at k xs part) c 0 ∙ pasted-before at k xs part within size 0 (u.start + c) (omega arith) ∙ sym (get_or-drop u.start xs c 0))
       s.right;
 }
   where
-    inner : start + n ≤ length (pasted at k xs part)
+    inner : u.start + n ≤ length (pasted at k xs part)
     inner = omega (arith, pasted-size at k xs part within size)
-
--- the step where there is one
-abbrev step_of : Option ℕ → ℕ
-step_of (Some r) = r
-step_of None = 0
 
 -- one more table, of t, behind the others
 pub tables_more :
-    (n t at k r : ℕ) (M : ModulusTables) (part : List ℕ) → t < lasts → k ≡ n → at + n ≤ solution_room → length part ≡ k → SolutionsSet n t r part
-    → TablesTo n at M → TablesTo n (at + n) (record { solutions = pasted at k M.solutions part; starts = set M.starts t at; steps = set M.steps t (Some r) })
-tables_more n t at k r M part low e fits size new s = record {
-  solved = record {
-    wide = pasted-size at k M.solutions part within size ∙ s.solved.wide;
-    starts_size = length-set M.starts t at ∙ s.solved.starts_size;
-    steps-size = length-set M.steps t (Some r) ∙ s.solved.steps-size;
-    tables = λ u step l m. table u step l m (ℕ_discrete u t);
-  };
+    (n t at k r : ℕ) (M : ModulusTables) (part : List ℕ) → length M.solutions ≡ solution_room → length M.solved ≡ lasts → t < lasts → k ≡ n → at + n ≤ solution_room → length part ≡ k → SolutionsSet n t r part
+    → TablesTo n at M → TablesTo n (at + n) (record { solutions = pasted at k M.solutions part; solved = set M.solved t (Some record { start = at; step = r }) })
+tables_more n t at k r M part wide places low e fits size new s = record {
+  solved = λ i u l m. (all i u l m (ℕ_discrete i t)).0;
   high = fits;
-  before = λ u step l m. ends u step l m (ℕ_discrete u t);
+  before = λ i u l m. (all i u l m (ℕ_discrete i t)).1;
 }
   where
     within : at + k ≤ length M.solutions
-    within = omega (arith, s.solved.wide)
+    within = omega (arith, wide)
 
-    start_new : get_or (set M.starts t at) t 0 ≡ at
-    start_new = get_or-set_same M.starts t at 0 (omega (arith, s.solved.starts_size))
+    added : Solved
+    added = record { start = at; step = r }
 
-    step_new : get_or (set M.steps t (Some r)) t None ≡ Some r
-    step_new = get_or-set_same M.steps t (Some r) None (omega (arith, s.solved.steps-size))
-
-    -- the step of t is r, and of the others as it was
-    same : (u step : ℕ) → u ≡ t → get_or (set M.steps t (Some r)) u None ≡ Some step → r ≡ step
-    same u step q m = ap step_of (sym step_new ∙ ap (λ (w : ℕ). get_or (set M.steps t (Some r)) w None) (sym q) ∙ m)
-
-    old : (u step : ℕ) → u ≢ t → get_or (set M.steps t (Some r)) u None ≡ Some step → get_or M.steps u None ≡ Some step
-    old u step q m = sym (get_or-set_other M.steps t u (Some r) None q) ∙ m
-
-    table : (u step : ℕ) → u < lasts → get_or (set M.steps t (Some r)) u None ≡ Some step → Dec (u ≡ t) → TableAt n u (get_or (set M.starts t at) u 0) step (pasted at k M.solutions part)
-    table u step l m (yes q) =
-        subst (λ (w : ℕ). TableAt n w (get_or (set M.starts t at) w 0) step (pasted at k M.solutions part)) (sym q)
-        (rw start_new (subst (λ (x : ℕ). TableAt n t at x (pasted at k M.solutions part)) (same u step q m) (table-pasted n t at k r M.solutions part e within size new)))
-    table u step l m (no q) =
-        rw (get_or-set_other M.starts t u at 0 q)
-        (table_kept n u (get_or M.starts u 0) at k step M.solutions part (s.before u step l (old u step q m)) within size (s.solved.tables u step l (old u step q m)))
-
-    ends : (u step : ℕ) → u < lasts → get_or (set M.steps t (Some r)) u None ≡ Some step → Dec (u ≡ t) → get_or (set M.starts t at) u 0 + n ≤ at + n
-    ends u step l m (yes q) = omega (arith, ap (λ (w : ℕ). get_or (set M.starts t at) w 0) q, start_new)
-    ends u step l m (no q) =
-        omega (arith, get_or-set_other M.starts t u at 0 q, s.before u step l (old u step q m))
+    -- each stands, and before the new end: that of t is the new one, and the others are as they were
+    all : (i : ℕ) (u : Solved) → i < lasts → get_or (set M.solved t (Some added)) i None ≡ Some u → Dec (i ≡ t) → TableAt n i u (pasted at k M.solutions part) × (u.start + n ≤ at + n)
+    all i u l m (yes q) =
+        subst (λ (w : Solved). TableAt n i w (pasted at k M.solutions part) × (w.start + n ≤ at + n)) same
+        (subst (λ (w : ℕ). TableAt n w added (pasted at k M.solutions part)) (sym q) (table-pasted n t at k r M.solutions part e within size new), omega arith)
+      where
+        same : added ≡ u
+        same = same_Some added u (sym (get_or-set_same M.solved t (Some added) None (omega (arith, places))) ∙ ap (λ (w : ℕ). get_or (set M.solved t (Some added)) w None) (sym q) ∙ m)
+    all i u l m (no q) =
+        (table_kept n i at k u M.solutions part (s.before i u l old) within size (s.solved i u l old), omega (arith, s.before i u l old))
+      where
+        old : get_or M.solved i None ≡ Some u
+        old = sym (get_or-set_other M.solved t i (Some added) None q) ∙ m

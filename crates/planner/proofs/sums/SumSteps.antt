@@ -1,12 +1,13 @@
 -- What a turn of each loop over rows and residues does: counting a residue, adding a term at the residues of a row, the entry
 -- of a row, the sums of one row more, writing the map and the terms, and gathering.
-use mathlib.Core.Path.{◌≡◌, refl, sym, ◌∙◌, ap}
-use mathlib.Core.Bool.{Bool, true, false, cond}
-use mathlib.Core.List.{List, [], ◌∷◌, ◌++◌, map, Memᴰ}
+use mathlib.Core.Path.{◌≡◌, refl, sym, ◌∙◌, ap, subst}
+use mathlib.Core.Bool.{Bool, true, false, true≢false, cond}
+use mathlib.Core.List.{List, [], ◌∷◌, ◌++◌, map}
 use Prim.Native.Nat.{ℕ, suc, ◌+◌, ◌*◌, ◌^◌, ◌<◌, ◌≤◌}
 use native.Mathlib.Nat.{add-zero, suc-mul, mul-le-mul, mul-le-mul_right, le_refl}
 use native.Mathlib.Numerals.{add-one}
 use native.Mathlib.Omega.{arith}
+use borrow.Author.Count.{below_more}
 use borrow.Author.Rules.{sfits_of}
 use borrow.Author.Tests.{eq-eqb, ne_eqb, eqb-true, eqb-false}
 use lib.Dec.{eqb, leb}
@@ -18,8 +19,9 @@ use mir.Syntax.{w32, w64}
 use mir.Val.{to_z, of_z}
 use mir.Facts.{to_z-of_z}
 use Rattle.rank1.specs.Residue.{dot, residue_at}
-use Rattle.rank1.specs.Index.{mirrors}
-use Rattle.rank1.specs.Sums.{mirrors_under, copies_at, copies, residue_map, sum_at, spread_sums, gathered_term, gathers, in32}
+use Rattle.rank1.specs.Index.{mirrors, row_count}
+use Rattle.rank1.specs.Named.{plan_number}
+use Rattle.rank1.specs.Sums.{mirrors_under, copies_at, copies, residue_map, sum_at, spread_sums, gathered_term, gathered_terms, gathers, in32}
 use Rattle.rank1.proofs.ResidueLaws.{residue-lt}
 use Rattle.rank1.proofs.MirrorLaws.{mirrors_first}
 use Rattle.rank1.proofs.UpTo.{map-up_to_is}
@@ -27,15 +29,18 @@ use Rattle.rank1.proofs.CountLaws.{count_map, count-take, count-le, at_places}
 use Rattle.rank1.proofs.WholeSums.{abs_add, mag_abs, abs_in32, in32_mag}
 use Rattle.rank1.proofs.SumLaws.{under-length, copies_some, copies-le, row_small, sum_take, sum_part_small, map-length, map-residue, map-copies}
 use Rattle.std.proofs.Common.{Option, None, Some}
-use Rattle.std.specs.Option.{MatchOption, is_some}
+use Rattle.std.specs.Option.{MatchOption}
 use Rattle.std.specs.Bool.{◌==◌}
 use Rattle.std.specs.List.{count_by}
 use Rattle.std.proofs.lemmas.List.{get_or-map}
 use Rattle.std.proofs.lemmas.List.Sums.{sum_by-cons}
 use Rattle.rank1.specs.Tests.{every}
-use Rattle.rank1.proofs.TestLaws.{true_every}
+use Rattle.rank1.proofs.TestLaws.{true_every, every_true}
 use Rattle.planner.specs.Sizes.{axes, most_mirrors}
 use Rattle.planner.specs.Inner.{occurrences, Addable, divides, EntryOf}
+use Rattle.planner.specs.Lists.{rows_in, residue_by}
+use Rattle.planner.specs.declared.lattice.Lattice.{Lattice}
+use Rattle.planner.proofs.RowLaws.{Comes, row_number, row_inside, row_listed, row_long, rows_counted}
 use Rattle.planner.proofs.sums.SignedSteps.{short}
 
 -- ---- counting the numbers x among the first t
@@ -165,110 +170,158 @@ module _ (plan n : ℕ) (z : List ℕ) (k : List ℤ) where
         counted : c ≡ copies plan n (map pos z) k
         counted = q ∙ occurrences_are x ∙ ap (λ (y : ℕ). copies_at plan n (map pos z) y k) residue
 
-    -- a term of 32 bits can be added at each to sums of 511 rows
-    pub addable : 0 < n → length k ≤ axes → (a : ℤ) → nat_abs a ≤ 2147483648 → (sums : List ℤ) → length sums ≡ n → ((r : ℕ) → nat_abs (get_or sums r (pos 0)) ≤ 511 * (most_mirrors * 2147483648)) → Addable a rs sums
-    addable p h a b sums e small = record {
-      inside = λ t l. omega (arith, residues_at t l, residue-lt n (dot (get_or (mirrors_under plan k) t []) (map pos z)) p);
-      fits = λ r. omega (
-        arith,
-        small r,
-        mul-le-mul {n₁ = length rs} {m₁ = nat_abs a} {n₂ = most_mirrors} {m₂ = 2147483648} (omega (arith, residues_length, under-length plan k h)) b,
-      );
-    }
-
 -- ---- terms of 32 bits
 -- the size of one
 pub in32_small : (a : ℤ) → in32 a ≡ true → nat_abs a ≤ 2147483648
 in32_small a e = abs_in32 a (in32_mag a e)
 
--- all of them, where each that was read is one
-pub all_in32 : (terms : List ℤ) (i : ℕ) → length terms ≤ i → ((j : ℕ) → j < i → in32 (get_or terms j (pos 0)) ≡ true) → every in32 terms ≡ true
-all_in32 terms i l h = true_every in32 terms (at_places (λ a. in32 a ≡ true) terms (pos 0) (λ j m. h j (omega arith)))
-
--- ---- the sums of one row more
-module _ (plan n : ℕ) (z : List ℤ) (ks : List (List ℤ)) (terms : List ℤ) (i : ℕ) where
-  -- what is added at r is row i's
-  pub sums_more : i < length ks → i < length terms → (r : ℕ) (a s s' : ℤ) (c : ℕ) → a ≡ get_or terms i (pos 0) → c ≡ copies_at plan n z r (get_or ks i []) → s ≡ sum_at plan n z (take i ks) (take i terms) r → s' ≡ s +ℤ (a *ℤ pos c) → s' ≡ sum_at plan n z (take (i + 1) ks) (take (i + 1) terms) r
-  sums_more l m r a s s' c ea ec es e =
-      e
-      ∙ ap (λ (x : ℤ). x +ℤ (a *ℤ pos c)) es
-      ∙ ap (λ (x : ℤ). sum_at plan n z (take i ks) (take i terms) r +ℤ (x *ℤ pos c)) ea
-      ∙ ap (λ (x : ℕ). sum_at plan n z (take i ks) (take i terms) r +ℤ (get_or terms i (pos 0) *ℤ pos x)) ec
-      ∙ sym (sum_take plan n z ks terms i r l m)
-      ∙ ap (λ (j : ℕ). sum_at plan n z (take j ks) (take j terms) r) (sym (add-one i))
-
-  -- the sums of the first i rows are small where their terms have 32 bits
-  pub sums_small : i ≤ length ks → i ≤ length terms → ((k : List ℤ) → Memᴰ k ks → length k ≤ axes) → ((j : ℕ) → j < i → in32 (get_or terms j (pos 0)) ≡ true) → (r : ℕ) → nat_abs (sum_at plan n z (take i ks) (take i terms) r) ≤ i * (most_mirrors * 2147483648)
-  sums_small l m f g r =
-      rw (take-take i i terms (le_refl i))
-      at (sum_part_small plan n z ks (take i terms) i r 2147483648 l f
-      (at_places (λ a. nat_abs a ≤ 2147483648) (take i terms) (pos 0)
-      (λ j p. rw (get_or-take i terms j (pos 0) (omega (arith, length-take-le i terms m))) (in32_small (get_or terms j (pos 0)) (g j (omega (arith, length-take-le i terms m)))))))
-
-  -- the sums of all rows
-  pub sums_all : length ks ≤ i → length terms ≤ i → (sums : List ℤ) → length sums ≡ n → ((r : ℕ) → get_or sums r (pos 0) ≡ sum_at plan n z (take i ks) (take i terms) r) → sums ≡ spread_sums plan n z ks terms
-  sums_all l m sums e h =
-      map-up_to_is (sum_at plan n z ks terms) n sums (pos 0) e
-      (λ r p. h r
-      ∙ ap (λ (hs : List (List ℤ)). sum_at plan n z hs (take i terms) r) (take_all i ks l)
-      ∙ ap (λ (bs : List ℤ). sum_at plan n z ks bs r) (take_all i terms m))
-
 -- ---- filling places from the front
 module _ {A : Type 0} (out xs : List A) where
-  -- one more element
-  pub fill_more : (j : ℕ) (v d : A) → j < length out → j < length xs → v ≡ get_or xs j d → take j out ≡ take j xs → take (j + 1) (set out j v) ≡ take (j + 1) xs
-  fill_more j v d l m e so_far =
-      ap (λ (k : ℕ). take k (set out j v)) (add-one j)
-      ∙ take-suc-set out j v l
+  -- one more element, where j stand and the next has the number i
+  pub fill_more : {j : ℕ} (i : ℕ) (v d : A) → i ≡ j → i < length out → i < length xs → v ≡ get_or xs i d → take j out ≡ take j xs → take (j + 1) (set out i v) ≡ take (j + 1) xs
+  fill_more i v d same l m e =
+      subst (λ (k : ℕ). take k out ≡ take k xs → take (k + 1) (set out i v) ≡ take (k + 1) xs) same
+      (λ so_far.
+      ap (λ (k : ℕ). take k (set out i v)) (add-one i)
+      ∙ take-suc-set out i v l
       ∙ ap (λ (t : List A). t ++ (v ∷ [])) so_far
-      ∙ ap (λ (w : A). take j xs ++ (w ∷ [])) e
-      ∙ sym (take-suc xs j d m)
-      ∙ ap (λ (k : ℕ). take k xs) (sym (add-one j))
+      ∙ ap (λ (w : A). take i xs ++ (w ∷ [])) e
+      ∙ sym (take-suc xs i d m)
+      ∙ ap (λ (k : ℕ). take k xs) (sym (add-one i)))
 
   -- all
   pub fill_all : (j : ℕ) → length out ≡ length xs → length xs ≤ j → take j out ≡ take j xs → out ≡ xs
   fill_all j e l so_far = sym (take_all j out (omega arith)) ∙ so_far ∙ take_all j xs l
 
--- ---- the map
-module _ (plan n : ℕ) (z : List ℤ) where
-  -- a row more is written
-  pub map_more : (ks : List (List ℤ)) (i : ℕ) (out : List ℕ) (x c : ℕ) → i < length ks → length out ≡ 2 * length ks → x ≡ residue_at n z (get_or ks i []) → c ≡ copies plan n z (get_or ks i []) → take (2 * i) out ≡ take (2 * i) (residue_map plan n z ks) → take (2 * (i + 1)) (set (set out (2 * i) x) (2 * i + 1) c) ≡ take (2 * (i + 1)) (residue_map plan n z ks)
-  map_more ks i out x c l e ex ec so_far =
-      rw twice
-      (fill_more (set out (2 * i) x) (residue_map plan n z ks) (2 * i + 1) c 0 (omega (arith, length-set out (2 * i) x)) (omega (arith, map-length plan n z ks)) (ec ∙ sym (map-copies plan n z ks i l))
-      (fill_more out (residue_map plan n z ks) (2 * i) x 0 (omega arith) (omega (arith, map-length plan n z ks)) (ex ∙ sym (map-residue plan n z ks i l)) so_far))
-    where
-      twice : 2 * (i + 1) ≡ 2 * i + 1 + 1
-      twice = omega arith
+-- ---- the sum that a row gathers
+-- the sum that is read at y
+abbrev pub read_sum : List ℤ → ℕ → ℤ
+read_sum sums y = to_z w64 (of_z w64 (get_or sums y (pos 0)))
 
--- ---- gathering, for a row with its entry; y is where the sum is read, and o is its quotient by c
--- there is one where the sum passes
-some_is : {d : Bool} (Q : ℤ → Type 0) (o : Option ℤ) → MatchOption o (d ≡ false) (λ q. (d ≡ true) × Q q) → d ≡ is_some o
-some_is Q None e = e
-some_is Q (Some q) p = p.0
+-- o is the quotient of s by c: none where c does not divide s, or the quotient has not 32 bits
+abbrev pub QuotientIs : ℤ → ℕ → Option ℤ → Type 0
+QuotientIs s c o = MatchOption o (divides s c ≡ false) (λ q. (divides s c ≡ true) × (q ≡ quot_z s (pos c)))
 
-module _ (plan n : ℕ) (z : List ℕ) (k : List ℤ) (x c : ℕ) (e : EntryOf plan n z k x c) (sums : List ℤ) (y : ℕ) (here : y ≡ x) (fits : mag (get_or sums y (pos 0)) < 2 ^ 63) where
-  -- the sum at the row's residue
-  sum_read : to_z w64 (of_z w64 (get_or sums y (pos 0))) ≡ get_or sums (residue_at n (map pos z) k) (pos 0)
-  sum_read =
-      to_z-of_z {w = w64} {z = get_or sums y (pos 0)} (sfits_of fits) ∙ ap (λ (j : ℕ). get_or sums j (pos 0)) (here ∙ e.is_residue)
+-- ---- the rows of a lattice
+module _ (lattice : Lattice) where
+  abbrev plan : ℕ
+  plan = plan_number lattice.rows.plan
 
-  -- the test
-  gather_test : divides (to_z w64 (of_z w64 (get_or sums y (pos 0)))) c ≡ gathers plan n (map pos z) sums k
-  gather_test =
-      ap (λ (s : ℤ). divides s c) sum_read ∙ ap (divides (get_or sums (residue_at n (map pos z) k) (pos 0))) e.is_copies
+  abbrev zs : List ℤ
+  zs = map pos lattice.z.now
 
-  pub gathers_is : (o : Option ℤ) → MatchOption o (divides (to_z w64 (of_z w64 (get_or sums y (pos 0)))) c ≡ false) (λ q. (divides (to_z w64 (of_z w64 (get_or sums y (pos 0)))) c ≡ true) × (q ≡ quot_z (to_z w64 (of_z w64 (get_or sums y (pos 0)))) (pos c))) → gathers plan n (map pos z) sums k ≡ is_some o
-  gathers_is o h = sym gather_test ∙ some_is (λ q. q ≡ quot_z (to_z w64 (of_z w64 (get_or sums y (pos 0)))) (pos c)) o h
+  abbrev ks : List (List ℤ)
+  ks = rows_in lattice.rows
 
-  -- the term that is stored, where the row passes
-  pub gather_term : (v : ℤ) → (divides (to_z w64 (of_z w64 (get_or sums y (pos 0)))) c ≡ true) × (v ≡ quot_z (to_z w64 (of_z w64 (get_or sums y (pos 0)))) (pos c)) → to_z w32 (of_z w32 v) ≡ gathered_term plan n (map pos z) sums k
-  gather_term v p =
-      ap (λ (u : ℤ). to_z w32 (of_z w32 u)) is
-      ∙ to_z-of_z (short (get_or sums (residue_at n (map pos z) k) (pos 0)) (copies plan n (map pos z) k) (sym gather_test ∙ p.0))
-    where
-      is : v ≡ gathered_term plan n (map pos z) sums k
-      is =
-          p.1
-          ∙ ap (λ (s : ℤ). quot_z s (pos c)) sum_read
-          ∙ ap (λ (j : ℕ). quot_z (get_or sums (residue_at n (map pos z) k) (pos 0)) (pos j)) e.is_copies
+  -- ---- the sums of the rows that have come
+  -- they are those of the first i rows, whose terms have 32 bits
+  abbrev pub SpreadTo : List ℤ → List ℤ → ℕ → Type 0
+  SpreadTo terms sums i =
+      ((j : ℕ) → j < i → in32 (get_or terms j (pos 0)) ≡ true)
+      × ((r : ℕ) → get_or sums r (pos 0) ≡ sum_at (plan_number lattice.rows.plan) lattice.n (map pos lattice.z.now) (take i (rows_in lattice.rows)) (take i terms) r)
+
+  module _ (terms sums : List ℤ) {i : ℕ} (so_far : SpreadTo terms sums i) where
+    -- all rows have come
+    pub sums_all :
+        i ≡ length terms → length terms ≡ row_count lattice.rows.d lattice.rows.numbers.now → length sums ≡ lattice.n
+        → (sums ≡ spread_sums (plan_number lattice.rows.plan) lattice.n (map pos lattice.z.now) (rows_in lattice.rows) terms) × (every in32 terms ≡ true)
+    sums_all all long size = (
+      map-up_to_is (sum_at plan lattice.n zs ks terms) lattice.n sums (pos 0) size
+          (λ r p. so_far.1 r
+          ∙ ap (λ (hs : List (List ℤ)). sum_at plan lattice.n zs hs (take i terms) r) (take_all i ks (omega (arith, all, long, rows_counted lattice.rows)))
+          ∙ ap (λ (bs : List ℤ). sum_at plan lattice.n zs ks bs r) (take_all i terms (omega (arith, all)))),
+      true_every in32 terms (at_places (λ a. in32 a ≡ true) terms (pos 0) (λ j l. so_far.0 j (omega (arith, all)))),
+    )
+
+    -- a row comes with its term a, and rs are the residues of those that it stands for
+    module _ {k : List ℤ} {rs : List ℕ} {a : ℤ} (next : Comes lattice.rows i i k) (l : i < length terms) (is : a ≡ get_or terms i (pos 0)) (narrow : in32 (get_or terms i (pos 0)) ≡ true)
+        (residues : rs ≡ map (residue_by lattice) (mirrors_under (plan_number lattice.rows.plan) k)) where
+      -- the sums of the rows before it are small, since a list has few rows
+      small : (r : ℕ) → nat_abs (get_or sums r (pos 0)) ≤ 511 * (most_mirrors * 2147483648)
+      small r =
+          let part : nat_abs (sum_at plan lattice.n zs (take i ks) (take i terms) r) ≤ i * (most_mirrors * 2147483648) =
+          rw (take-take i i terms (le_refl i))
+          at (sum_part_small plan lattice.n zs ks (take i terms) i r 2147483648 (omega (arith, row_inside next)) (λ h m. omega (arith, row_long lattice.rows h m, lattice.rows.valid.few_axes))
+          (at_places (λ b. nat_abs b ≤ 2147483648) (take i terms) (pos 0)
+          (λ j p. rw (get_or-take i terms j (pos 0) (omega (arith, length-take-le i terms (omega arith)))) (in32_small (get_or terms j (pos 0)) (so_far.0 j (omega (arith, length-take-le i terms (omega arith)))))))) in
+          omega (arith, ap nat_abs (so_far.1 r), next.among, lattice.rows.valid.few_rows, part)
+
+      -- so the term can be added at each residue
+      pub addable : length sums ≡ lattice.n → Addable a rs sums
+      addable size = record {
+        inside = λ t p. omega (arith, size, residues_at plan lattice.n lattice.z.now k rs residues t p, residue-lt lattice.n (dot (get_or (mirrors_under plan k) t []) zs) lattice.ready.modulus.low);
+        fits = λ r. omega (
+          arith,
+          small r,
+          mul-le-mul {n₁ = length rs} {m₁ = nat_abs a} {n₂ = most_mirrors} {m₂ = 2147483648} (omega (arith, residues_length plan lattice.n lattice.z.now k rs residues, under-length plan k (omega (arith, next.size, lattice.rows.valid.few_axes)))) (rw is (in32_small (get_or terms i (pos 0)) narrow)),
+        );
+      }
+
+      -- and then they are the sums of one row more
+      pub sums_more : (new : List ℤ) → ((r : ℕ) → get_or new r (pos 0) ≡ get_or sums r (pos 0) +ℤ (a *ℤ pos (occurrences r rs))) → SpreadTo terms new (i + 1)
+      sums_more new added = (
+        below_more (λ j. in32 (get_or terms j (pos 0)) ≡ true) i so_far.0 narrow,
+        λ r. added r
+            ∙ ap (λ (x : ℤ). x +ℤ (a *ℤ pos (occurrences r rs))) (so_far.1 r)
+            ∙ ap (λ (x : ℤ). sum_at plan lattice.n zs (take i ks) (take i terms) r +ℤ (x *ℤ pos (occurrences r rs))) is
+            ∙ ap (λ (x : ℕ). sum_at plan lattice.n zs (take i ks) (take i terms) r +ℤ (get_or terms i (pos 0) *ℤ pos x))
+            (occurrences_are plan lattice.n lattice.z.now k rs residues r ∙ ap (copies_at plan lattice.n zs r) (row_number next))
+            ∙ sym (sum_take plan lattice.n zs ks terms i r (row_inside next) l)
+            ∙ ap (λ (j : ℕ). sum_at plan lattice.n zs (take j ks) (take j terms) r) (sym (add-one i)),
+      )
+
+  -- ---- the row that comes, with its entry
+  -- the map, and the terms that sums gather
+  abbrev pub map_of : List ℕ
+  map_of = residue_map (plan_number lattice.rows.plan) lattice.n (map pos lattice.z.now) (rows_in lattice.rows)
+
+  abbrev pub terms_of : List ℤ → List ℤ
+  terms_of = gathered_terms (plan_number lattice.rows.plan) lattice.n (map pos lattice.z.now) (rows_in lattice.rows)
+
+  module _ {j i x c : ℕ} {k : List ℤ} (next : Comes lattice.rows j i k) (e : EntryOf (plan_number lattice.rows.plan) lattice.n lattice.z.now k x c) where
+    -- it is written to the map
+    pub map_more :
+        (out : List ℕ) → length out ≡ 2 * row_count lattice.rows.d lattice.rows.numbers.now → take (2 * j) out ≡ take (2 * j) map_of
+        → take (2 * (j + 1)) (set (set out (2 * i) x) (2 * i + 1) c) ≡ take (2 * (j + 1)) map_of
+    map_more out long so_far =
+        let size = map-length plan lattice.n zs ks in
+        let twice : 2 * (j + 1) ≡ 2 * j + 1 + 1 = omega arith in
+        rw twice
+        (fill_more (set out (2 * i) x) map_of (2 * i + 1) c 0 (omega (arith, next.number)) (omega (arith, length-set out (2 * i) x, long, next.among)) (omega (arith, size, row_inside next))
+        (e.is_copies ∙ ap (copies plan lattice.n zs) (row_number next) ∙ sym (map-copies plan lattice.n zs ks i (row_inside next)))
+        (fill_more out map_of (2 * i) x 0 (omega (arith, next.number)) (omega (arith, long, next.among)) (omega (arith, size, row_inside next))
+        (e.is_residue ∙ ap (residue_by lattice) (row_number next) ∙ sym (map-residue plan lattice.n zs ks i (row_inside next))) so_far))
+
+    module _ (sums : List ℤ) {y : ℕ} (here : y ≡ x) (fits : mag (get_or sums y (pos 0)) < 2 ^ 63) where
+      -- the sum that is read is that at its residue, so the test of it is the row's
+      sum_read : read_sum sums y ≡ get_or sums (residue_by lattice k) (pos 0)
+      sum_read = to_z-of_z {w = w64} {z = get_or sums y (pos 0)} (sfits_of fits) ∙ ap (λ (r : ℕ). get_or sums r (pos 0)) (here ∙ e.is_residue)
+
+      gather_test : divides (read_sum sums y) c ≡ gathers plan lattice.n zs sums k
+      gather_test = ap (λ (s : ℤ). divides s c) sum_read ∙ ap (divides (get_or sums (residue_by lattice k) (pos 0))) e.is_copies
+
+      -- where all rows pass, there is a quotient
+      pub term_some : {o : Option ℤ} → every (gathers (plan_number lattice.rows.plan) lattice.n (map pos lattice.z.now) sums) (rows_in lattice.rows) ≡ true → o ≡ None → QuotientIs (read_sum sums y) c o → ⊥
+      term_some all none found =
+          true≢false (sym (every_true (gathers plan lattice.n zs sums) ks all k (row_listed next)) ∙ sym gather_test ∙ subst (QuotientIs (read_sum sums y) c) none found)
+
+      -- it is the row's term, and is written
+      pub terms_more :
+          (terms : List ℤ) {v : ℤ} → QuotientIs (read_sum sums y) c (Some v) → length terms ≡ row_count lattice.rows.d lattice.rows.numbers.now → take j terms ≡ take j (terms_of sums)
+          → take (j + 1) (set terms i (to_z w32 (of_z w32 v))) ≡ take (j + 1) (terms_of sums)
+      terms_more terms {v} found long =
+          fill_more terms (terms_of sums) i (to_z w32 (of_z w32 v)) (pos 0) next.number (omega (arith, next.among, long)) (omega (arith, row_inside next, length-map ks term)) (
+          ap (λ (u : ℤ). to_z w32 (of_z w32 u)) is
+          ∙ to_z-of_z (short (get_or sums (residue_by lattice k) (pos 0)) (copies plan lattice.n zs k) (sym gather_test ∙ found.0))
+          ∙ ap term (row_number next)
+          ∙ sym (get_or-map term ks i [] (pos 0) (row_inside next))
+          )
+        where
+          term : List ℤ → ℤ
+          term = gathered_term plan lattice.n zs sums
+
+          is : v ≡ term k
+          is =
+              found.1
+              ∙ ap (λ (s : ℤ). quot_z s (pos c)) sum_read
+              ∙ ap (λ (b : ℕ). quot_z (get_or sums (residue_by lattice k) (pos 0)) (pos b)) e.is_copies

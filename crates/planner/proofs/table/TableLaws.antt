@@ -1,4 +1,5 @@
--- The laws of the table: which rows it has, and what adding a row gives (`rows-joined`, then `added-stays`, `added-only`, `added-was`).
+-- The laws of the table: which rows it has, and what `each` gives of them (`found_yielded`); and what adding a row gives (`rows-joined`,
+-- then `added-stays`, `added-only`, `added-was`).
 use mathlib.Core.Path.{◌≡◌, refl, sym, ◌∙◌, ap, subst}
 use mathlib.Core.Logic.{◌⊎◌, ◌≢◌, inl, inr, ⊎_elim}
 use mathlib.Core.Bool.{true, true≢false}
@@ -8,20 +9,50 @@ use Prim.Native.Nat.{ℕ, suc, ◌+◌, ◌*◌, ◌<◌, ◌≤◌}
 use native.Mathlib.Nat.{suc-mul, mul-le-mul_right}
 use native.Mathlib.Omega.{arith}
 use lib.IntN.{ℤ}
-use lib.ListN.{length}
+use lib.ListN.{length, take, drop}
 use lib.Seq.{paste}
+use Rattle.std.specs.declared.iter.Enumerate.{Enumerate}
+use Rattle.std.specs.Prelude.{Option, Some, None}
+use Rattle.std.specs.Iterator.{Yields}
+use denote.Ref.{Bor}
+use Rattle.std.specs.Iterator.Adapters.{enumerate_source, enumerate_count}
+use Rattle.std.specs.declared.slice.ChunksExact.{ChunksExact}
 use Rattle.rank1.specs.Index.{rows_of}
-use Rattle.rank1.proofs.IndexLaws.{row_in}
-use Rattle.planner.specs.Sizes.{axes, room}
-use Rattle.planner.specs.Inner.{row_at}
-use Rattle.planner.specs.Table.{rows_found, Added, stood, joined, full}
+use Rattle.rank1.proofs.IndexLaws.{row_in, row_out, rows-length, member_length}
+use Rattle.planner.specs.Sizes.{axes, room, largest_size}
+use Rattle.planner.specs.Inner.{Covered, row_at}
+use Rattle.planner.specs.Table.{rows_found, Storable, Added, stood, joined, full}
 use Rattle.planner.specs.declared.table.Differences.{Differences}
-use Rattle.planner.proofs.RowLaws.{row_joined}
+use Rattle.planner.proofs.products.ProductLaws.{covered_take, covered_drop}
+use Rattle.planner.proofs.RowLaws.{rows_alone, row_joined, Gives, Begins, run_yielded, NextOf, next_of, numbering, number-turn, number-end}
 
 module _ (t : Differences) (long : length t.rows ≡ room * axes) where
   -- all rows fit in
   pub rows-inside : t.count * t.d ≤ length t.rows
   rows-inside = omega (arith, mul-le-mul_right {m = t.count} {n = room} t.d t.few, t.few_axes)
+
+  -- each has d components, for which there are places in the product tables
+  pub row-storable : {k : List ℤ} → Memᴰ k (rows_found t) → Storable t.d k
+  row-storable {k} m =
+      let p = row_out t.d t.count t.rows k m in
+      record {
+        size = member_length t.d t.count t.rows k rows-inside m;
+        small = subst (Covered largest_size) (sym p.is)
+            (covered_take largest_size t.d (drop (p.index * t.d) t.rows) (covered_drop largest_size (p.index * t.d) t.rows t.small));
+      }
+
+  -- what `each` lends gives them
+  pub found_yielded : {s : ChunksExact ℤ} → Begins t.d (take (t.count * t.d) t.rows) s → Gives s (rows_found t)
+  found_yielded {s} begins = subst (Gives s) (rows_alone t.d t.count t.rows t.some_axes rows-inside) (run_yielded s t.some_axes begins)
+
+  -- a loop that numbers them
+  module _ (s : Enumerate (ChunksExact ℤ)) (begins : Begins t.d (take (t.count * t.d) t.rows) (enumerate_source s) × (enumerate_count s ≡ 0)) (ys : List (ℕ × Bor (List ℤ)))
+      (v u : Enumerate (ChunksExact ℤ)) (y : Yields numbering s ys v) {r : Option (ℕ × Bor (List ℤ))} where
+    pub next-found : {i : ℕ} {x : Bor (List ℤ)} → r ≡ Some (i, x) → numbering v r u → NextOf t.d t.count t.rows (length ys) i x.now
+    next-found is e = next_of rows-inside (number-turn s (found_yielded begins.0) begins.1 ys v u y is e)
+
+    pub no-found : r ≡ None → numbering v r u → length ys ≡ t.count
+    no-found is e = number-end s (found_yielded begins.0) begins.1 ys v u y is e ∙ rows-length t.d t.count t.rows
 
   -- there is room for one more row
   pub next-room : t.count ≢ room → t.count * t.d + t.d ≤ length t.rows

@@ -7,7 +7,7 @@ use lib.ListN.{get_or, set}
 use lib.Seq.{ext_get_or, get_or-set_same, get_or-set_other}
 use Rattle.rank1.specs.Differences.{minus}
 use Rattle.rank1.proofs.DifferenceLaws.{minus_at, minus-length}
-use Rattle.planner.proofs.differences.UprightLaws.{minus_back}
+use Rattle.planner.proofs.differences.MinusLaws.{minus_back}
 use Rattle.planner.proofs.differences.set_minus.Goals as goal
 
 pub loop-j-preserved : goal.loop-j-preserved

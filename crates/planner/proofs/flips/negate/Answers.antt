@@ -5,7 +5,7 @@ use lib.IntN.{pos, neg_ℤ}
 use lib.ListN.{length-map}
 use lib.Seq.{ext_get_or}
 use Rattle.rank1.specs.Differences.{negative}
-use Rattle.planner.proofs.differences.UprightLaws.{negative_at}
+use Rattle.planner.proofs.flips.UprightLaws.{negative_at}
 use Rattle.planner.proofs.flips.negate.Goals as goal
 
 pub returns : goal.returns

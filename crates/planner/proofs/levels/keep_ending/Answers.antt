@@ -23,7 +23,7 @@ next c =
     let come = YieldsList-turn
     (YieldsList-at c.into_iter-row-iterator.ensures.into_iter_gives
     (YieldsList-from_filter _ (zero_from c.args.j)
-    (YieldsList-at c.filter-row-items.ensures.source (rows_yielded rows.d rows.numbers.now rows.valid.some_axes c.each.ensures.rest c.each.ensures.size))
+    (rows_yielded rows (search rules))
     c.filter-row-items.ensures.closure (λ x r q k. search (rules, tests))))
     c.loop-row.yielded _ c.loop-row.yielded_by _ _ _ c.in-Some.is c.next.ensures.steps in
     let same = ending_filter c.args.j (index_list rows.d rows.numbers.now) in
@@ -75,7 +75,7 @@ returns c =
     YieldsList-end
     (YieldsList-at c.into_iter-row-iterator.ensures.into_iter_gives
     (YieldsList-from_filter _ (zero_from c.args.j)
-    (YieldsList-at c.filter-row-items.ensures.source (rows_yielded rows.d rows.numbers.now rows.valid.some_axes c.each.ensures.rest c.each.ensures.size))
+    (rows_yielded rows (search rules))
     c.filter-row-items.ensures.closure (λ x r q k. search (rules, tests))))
     c.loop-row.yielded _ c.loop-row.yielded_by _ _ c.in-None.is c.next.ensures.steps in
     kept-all rows.d c.args.j (length c.loop-row.yielded) rows.numbers.now c.args.out.now c.loop-row.out c.loop-row.at rows.valid.whole

@@ -1,4 +1,4 @@
--- `listing::set_differences`: the table is sound, what it marks is right for the list, and its runs are its rows; no component is
+-- `listing::set_differences`: the table is sound, what it marks is right for the list, and its runs are its rows, with bounds that rise; no component is
 -- larger than the larger of the largest of the list and of the table.
 use mathlib.Core.Path.{sym, ◌∙◌, subst}
 use Prim.Native.Nat.{ℕ, ◌*◌, ◌≤◌}
@@ -46,3 +46,6 @@ returns-clause-made c =
           (covered_wider 0 top a.list.now.components (omega arith) narrow c.requires);
       tails = runs.short;
     }
+
+pub invariant_of-list : goal.invariant_of-list
+invariant_of-list c = record { bounded = c.arrange-tail.ensures.arranged.bounded }

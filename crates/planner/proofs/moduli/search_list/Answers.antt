@@ -1,4 +1,4 @@
--- `moduli::search_list`: the tables are those of the list; the vector is built in the first d of its places, which the call of
+-- `moduli::search_list`: the tables are those of the list, where at first no run is (`bounds_none`); the vector is built in the first d of its places, which the call of
 -- `first_modulus` leaves in front of the others.
 use mathlib.Core.Path.{◌≡◌, sym, ap, ◌∙◌, subst}
 use mathlib.Core.Bool.{Bool, false}
@@ -11,6 +11,7 @@ use Rattle.planner.specs.Inner.{Covered}
 use Rattle.planner.specs.Sizes.{axes, room, level_room}
 use Rattle.planner.proofs.products.ProductLaws.{covered_zeros}
 use Rattle.planner.proofs.Writing.{unwritten}
+use Rattle.planner.proofs.runs.RunLaws.{bounds_none}
 use Rattle.planner.proofs.moduli.search_list.Goals as goal
 use Rattle.planner.proofs.moduli.search_list.Goals.{After-set_levels}
 
@@ -31,3 +32,6 @@ pub set_swaps-requires : goal.set_swaps-requires
 set_swaps-requires c =
     let e = no_swaps (goal.at.set_swaps-requires c).After-set_levels in
     λ i. subst (λ (s : List Bool). get_or s i false ≡ false) (sym e) (unwritten false (axes * axes) i)
+
+pub invariant_of-list : goal.invariant_of-list
+invariant_of-list c = record { bounded = bounds_none }

@@ -1,9 +1,6 @@
--- `products::prepare_rows`: a valid call with the products of z is ready (`ready_whole`).
-use Rattle.rank1.specs.Named.{plan_number}
+-- `products::prepare_rows`: the rows with a valid pair and the products of its vector are ready (`ready_whole`).
 use Rattle.planner.proofs.CallLaws.{ready_whole}
 use Rattle.planner.proofs.products.prepare_rows.Goals as goal
 
 pub returns : goal.returns
-returns c =
-    let rows = c.args.rows.now in
-    ready_whole (plan_number rows.plan) rows.d rows.numbers.now c.args.n c.args.z.now c.largest.result c.prepare.new.products rows.valid c.requires c.largest.ensures c.prepare.ensures
+returns c = ready_whole c.args.rows.now c.requires.0 c.requires.1.size c.largest.ensures c.prepare.ensures

@@ -15,9 +15,9 @@ returns c =
     let M = a.modulus.now in
     let w = c.from in
     let k = a.at + w.result - a.at in
-    let new = c.set_solutions in
+    let new = c.set_solutions-step in
     let part = new.new.solutions in
-    subst (λ (x : ℕ). TablesTo a.n (a.at + x) (record { solutions = pasted a.at k M.solutions part; starts = set M.starts a.t a.at; steps = set M.steps a.t (Some new.result) })) (sym w.ensures)
-    (tables_more a.n a.t a.at k new.result M part c.requires.tabulable.short (omega (arith, w.ensures)) (omega (arith, w.ensures))
+    subst (λ (x : ℕ). TablesTo a.n (a.at + x) (record { solutions = pasted a.at k M.solutions part; solved = set M.solved a.t (Some record { start = a.at; step = new.result }) })) (sym w.ensures)
+    (tables_more a.n a.t a.at k new.result M part (omega arith) (omega arith) c.requires.tabulable.short (omega (arith, w.ensures)) (omega (arith, w.ensures))
     (new.auto.solutions ∙ cut-size a.at (a.at + w.result) M.solutions (omega arith))
     new.ensures c.requires.tables_to)

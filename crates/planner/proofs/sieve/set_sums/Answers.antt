@@ -24,7 +24,7 @@ loop-e-preserved c =
     let a = c.args in
     let p = c.requires in
     sums_more a.n a.at a.components.now a.products.now a.sums.now a.from l.e c.sum_of.result l.sums
-    (omega arith) (omega arith) p.inner p.summed
+    (omega arith) (omega arith) p.inner (omega arith)
     (c.sum_of.ensures.0
     ∙ ap (λ (x : ℕ). (x + get_or a.products.now (a.at * places + c.place_of.result) 0) % a.n) (l.invariant.kept (a.at * room + l.e) (omega arith))
     ∙ ap (λ (x : ℕ). (get_or a.sums.now (a.at * room + l.e) 0 + get_or a.products.now (a.at * places + x) 0) % a.n) (placed (goal.at.loop-e-preserved c).After-place_of))

@@ -8,23 +8,12 @@ use Rattle.planner.proofs.lattice.Lattice.keeps_rule.Goals as goal
 
 pub returns-then-not-record_owners : goal.returns-then-not-record_owners
 returns-then-not-record_owners c =
-    let lattice = c.args.self.now in
-    let rows = lattice.rows in
-    let recorded = c.record_owners-in-B in
-    recorded_breaks rows.d rows.numbers.now lattice.n lattice.z.now recorded.new.owners (plan_number rows.plan) recorded.result
+    recorded_breaks c.args.self.now c.record_owners-in-B.ensures
     (λ none. ⊎_elim (λ e. omega (arith, none, ap plan_number e)) (λ e. omega (arith, none, ap plan_number e)) c.in-B.is)
-    c.if-not-record_owners.true recorded.ensures
+    c.if-not-record_owners.true
 
 pub mirrors_apart-requires-clause-owners : goal.mirrors_apart-requires-clause-owners
-mirrors_apart-requires-clause-owners c =
-    let lattice = c.args.self.now in
-    let rows = lattice.rows in
-    let recorded = c.record_owners-in-B in
-    recorded_rows rows.d rows.numbers.now lattice.n lattice.z.now recorded.new.owners recorded.result c.if-not-record_owners.false recorded.ensures
+mirrors_apart-requires-clause-owners c = recorded_rows c.args.self.now c.record_owners-in-B.ensures c.if-not-record_owners.false
 
 pub returns-in-Fourier : goal.returns-in-Fourier
-returns-in-Fourier c =
-    let lattice = c.args.self.now in
-    let rows = lattice.rows in
-    let recorded = c.record_owners in
-    rw c.in-Fourier.is (recorded_decides rows.d rows.numbers.now lattice.n lattice.z.now recorded.new.owners recorded.result lattice.ready.different recorded.ensures)
+returns-in-Fourier c = rw c.in-Fourier.is (recorded_decides c.args.self.now c.record_owners.ensures)

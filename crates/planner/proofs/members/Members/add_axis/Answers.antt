@@ -34,8 +34,7 @@ pub returns-clause-mirroring : goal.returns-clause-mirroring
 returns-clause-mirroring c =
     let a = c.args in
     let row = a.row.now in
-    mirroring-doubled (length row) a.owner row a.axis a.from a.self.now c.double.new.self c.if-self-from-gt-MOST_MEMBERS.false c.requires.1
-    c.double.ensures
+    mirroring-doubled (length row) a.owner row a.axis a.from a.self.now c.double.new.self c.requires.1 c.double.ensures
 
 pub returns-clause-members_stay : goal.returns-clause-members_stay
 returns-clause-members_stay c =

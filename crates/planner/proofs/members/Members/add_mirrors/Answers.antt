@@ -1,6 +1,5 @@
 -- `members::Members::add_mirrors`: the row, its mirrors or nothing of it come behind the members that are there.
 use mathlib.Core.Path.{refl, sym, ◌∙◌}
-use native.Mathlib.Omega.{arith}
 use lib.ListN.{length}
 use Rattle.rank1.specs.Named.{plan_number}
 use Rattle.planner.specs.Members.{Pushed}
@@ -12,8 +11,8 @@ pub returns-then-from-eq-MOST_MEMBERS : goal.returns-then-from-eq-MOST_MEMBERS
 returns-then-from-eq-MOST_MEMBERS c =
     let k = c.args.row.now in
     let m = c.args.self.now in (
-      stay_some (length k) m.count m,
-      row-full (plan_number c.args.plan) (length k) c.args.owner k m c.requires.small_row.0 c.requires.few,
+      stay_some (length k) m.count m _,
+      row-full (plan_number c.args.plan) (length k) c.args.owner k m c.requires.0 _,
     )
 
 -- the row came behind the members
@@ -24,9 +23,8 @@ pushed c = c.push.ensures
 pub add_signs-requires : goal.add_signs-requires
 add_signs-requires c =
     let k = c.args.row.now in (
-      c.requires.small_row.2,
-      mirroring-first (length k) c.args.owner k c.args.self.now c.push.new.self c.requires.small_row.0 refl c.requires.small_row.1 (omega (arith, c.requires.few))
-          (pushed (goal.at.add_signs-requires c).After-push),
+      c.requires.2,
+      mirroring-first (length k) c.args.owner k c.args.self.now c.push.new.self c.requires.0 refl c.requires.1 (pushed (goal.at.add_signs-requires c).After-push),
     )
 
 pub returns-else-takes_mirrors : goal.returns-else-takes_mirrors
@@ -36,7 +34,7 @@ returns-else-takes_mirrors c =
     let p = pushed (goal.at.returns-else-takes_mirrors c).After-push in (
       stay-pushed (length k) c.args.owner k m c.push.new.self p,
       row-alone (plan_number c.args.plan) (length k) c.args.owner k m c.push.new.self (sym c.takes_mirrors.ensures ∙ c.if-takes_mirrors.false) p
-          (mirroring-first (length k) c.args.owner k m c.push.new.self c.requires.small_row.0 refl c.requires.small_row.1 (omega (arith, c.requires.few)) p),
+          (mirroring-first (length k) c.args.owner k m c.push.new.self c.requires.0 refl c.requires.1 p),
     )
 
 pub returns-then-takes_mirrors : goal.returns-then-takes_mirrors

@@ -10,20 +10,18 @@ use Rattle.planner.proofs.members.Members.gather.Goals as goal
 use Rattle.planner.proofs.members.Members.gather.Goals.{In-Some}
 
 -- the row that comes is the next of the list, and has its number
-next : (c : In-Some) → Comes c.args.rows.now.d c.args.rows.now.numbers.now (length c.loop-i.yielded) c.in-Some.i c.in-Some.row.now
-next c =
-    let rows = c.args.rows.now in
-    next-number rows.d rows.numbers.now _ rows.valid.some_axes (search rules) (search rules) (search rules) c.loop-i.yielded _ c.loop-i.yielded_by _ _ _ _ c.in-Some.is c.next.ensures.steps
+next : (c : In-Some) → Comes c.args.rows.now (length c.loop-i.yielded) c.in-Some.i c.in-Some.row.now
+next c = next-number c.args.rows.now _ (search rules) _ _ _ c.loop-i.yielded_by c.in-Some.is c.next.ensures.steps
 
 pub overflow_cast-i : goal.overflow_cast-i
 overflow_cast-i c =
     let here = next (goal.at.overflow_cast-i c).In-Some in
     record { fits = omega (arith, here.among, c.args.rows.now.valid.few_rows) }
 
-pub add_mirrors-requires-clause-small_row : goal.add_mirrors-requires-clause-small_row
-add_mirrors-requires-clause-small_row c =
+pub add_mirrors-requires : goal.add_mirrors-requires
+add_mirrors-requires c =
     let rows = c.args.rows.now in
-    let here = next (goal.at.add_mirrors-requires-clause-small_row c).In-Some in (
+    let here = next (goal.at.add_mirrors-requires c).In-Some in (
       omega (arith, here.size, rows.valid.few_axes),
       row_small rows.d c.in-Some.i rows.numbers.now c.in-Some.row.now rows.valid.small here.is here.size,
       omega (arith, here.size, c.requires),
@@ -46,6 +44,5 @@ loop-i-preserved c =
 pub returns : goal.returns
 returns c =
     let rows = c.args.rows.now in
-    let all =
-    no-number rows.d rows.numbers.now _ rows.valid.some_axes (search rules) (search rules) (search rules) c.loop-i.yielded _ c.loop-i.yielded_by _ _ c.in-None.is c.next.ensures.steps in
+    let all = no-number rows _ (search rules) _ _ _ c.loop-i.yielded_by c.in-None.is c.next.ensures.steps in
     subst (λ (m : ℕ). Gathering (plan_number rows.plan) rows.d (rows_of rows.d m rows.numbers.now) c.loop-i.members) all c.loop-i.invariant

@@ -1,12 +1,11 @@
 -- `Search::complete`: with all components fixed the rule is checked; else the values of the component are passed one by one
 -- (passed_first, passed-alone, passed-call) until one is found (found-call) or they end (ended). Measure: the components left.
-use mathlib.Core.Path.{◌≡◌, sym, ap, ◌∙◌, subst}
+use mathlib.Core.Path.{◌≡◌, sym, subst}
 use mathlib.Core.Bool.{Bool, true, false}
 use Prim.Native.Nat.{ℕ, ◌+◌, ◌*◌, ◌<◌}
 use native.Mathlib.Omega.{arith}
-use lib.ListN.{length, get_or}
+use lib.ListN.{get_or}
 use Rattle.planner.specs.Sizes.{largest_modulus}
-use Rattle.planner.specs.declared.tables.Work.{Work}
 use Rattle.planner.specs.Stage.{Prefixed, CompletedOf}
 use Rattle.planner.proofs.search.StageLaws.{siftable, summable, triable}
 use Rattle.planner.proofs.search.EndLaws.{list-ready}
@@ -33,7 +32,7 @@ returns-then-at-self-clause-completed t c =
 pub sieve_at-requires : goal.sieve_at-requires
 sieve_at-requires t c =
     let a = c.args in
-    siftable a.self.now a.at a.z.now a.work.now c.requires (omega arith) (omega arith) (omega arith)
+    siftable a.self.now a.at a.z.now a.work.now c.requires (omega arith)
 
 pub returns-in_default-clause-completed : goal.returns-in_default-clause-completed
 returns-in_default-clause-completed t c =
@@ -53,7 +52,6 @@ add_sums-requires t c =
     let w = c.sieve_at.new.work in
     summable a.self.now a.at a.z.now w
     (marked a.self.now a.at a.z.now a.work.now c.requires (omega arith) w c.sieve_at.ensures) (omega arith)
-    (ap (λ (x : Work). length x.products) c.sieve_at.ensures.only ∙ omega arith) (ap (λ (x : Work). length x.sums) c.sieve_at.ensures.only ∙ omega arith)
 
 pub loop-v-init : goal.loop-v-init
 loop-v-init t c =

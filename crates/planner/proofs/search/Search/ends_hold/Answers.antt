@@ -7,7 +7,7 @@ use Rattle.planner.proofs.search.Search.ends_hold.Goals as goal
 pub level_at-requires : goal.level_at-requires
 level_at-requires c =
     let prefix = c.requires.prefixed in
-    (omega (arith, prefix.within, c.args.self.now.task.rows.valid.few_axes), c.requires.listed.ends.few c.args.at prefix.within)
+    (omega (arith, prefix.within, c.args.self.now.task.rows.valid.few_axes), c.requires.listed.ends.few c.args.at (omega (arith, prefix.within)))
 
 pub invariant_of-ending : goal.invariant_of-ending
 invariant_of-ending c =

@@ -19,8 +19,10 @@ sieve_first-requires c =
     let s = c.args.self.now in
     record {
       modulus = p.modulus;
-      bounded = p.bounded;
       short = p.short;
       periods = periods s.n s.modulus.now p.solved;
       inside = search rules;
     }
+
+pub sieve-requires : goal.sieve-requires
+sieve-requires c = c.requires.sievable (c.args.at - 1) (omega arith)

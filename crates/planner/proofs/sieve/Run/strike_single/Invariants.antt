@@ -1,4 +1,4 @@
--- `sieve::Run::strike_single`: the mark of a turn is a solution of a difference of the run (`struck_more`), or mark n.
+-- `sieve::Run::strike_single`: the mark of a turn is a solution of a difference of the run (`struck_turn`), or mark n.
 use Rattle.planner.specs.Sieve.{Struck}
 use Rattle.planner.proofs.sieve.Run.strike_single.Given as goal
 

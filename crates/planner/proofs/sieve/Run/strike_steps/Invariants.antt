@@ -1,4 +1,4 @@
--- `sieve::Run::strike_steps`: the marks of a turn are solutions of a difference of the run (`struck_more`).
+-- `sieve::Run::strike_steps`: the marks of a turn are solutions of a difference of the run (`struck_turn`).
 use Rattle.planner.specs.Sieve.{Struck}
 use Rattle.planner.proofs.sieve.Run.strike_steps.Given as goal
 
