@@ -1,6 +1,7 @@
 #!/usr/bin/env bash
 # Every call through the compiled library, from Rust and from C. Builds the archive, runs the Rust crate's tests (which compare every
-# call with an independent planner), and compiles and runs the C programs. Prints nothing where all passes.
+# call with an independent planner), and compiles and runs the C programs; and looks what the archive needs from outside. Prints nothing
+# where all passes.
 set -u
 cd "$(dirname "$0")/.." || exit 1
 log=$(mktemp)
@@ -16,6 +17,9 @@ quietly() {
 
 archive=target/staticlib/libexports.a
 quietly bash bindings/archive.sh
+
+# What the archive asks of whoever links it: these two and nothing else.
+quietly diff <(printf '%s\n' memcpy memset) <(nm -u "$archive" | sed -n 's/^ *U //p' | sort -u)
 
 export CARGO_TARGET_DIR=$PWD/target/cargo
 for profile in dev release; do

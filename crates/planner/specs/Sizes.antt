@@ -1,7 +1,8 @@
--- The sizes of the tables under the names that contracts and proofs use. Each number that this crate's code has stands in src/sizes.rt alone, or in
--- crate rank1, from which that takes document 01's limits; the two that this crate's code has no use for stand here.
-use Rattle.std.specs.Prelude.{ℕ}
-use Rattle.planner.specs.declared.sizes.TheConstants.{AXES, MOST_ROWS, LARGEST_MODULUS, MOST_MIRRORS, MIDDLE, PLACES, PRODUCT_ROOM, LEVEL_ROOM, MOST_MEMBERS, ROOM, SLOTS, LASTS, SOLUTION_ROOM}
+-- The sizes of the tables under the names that contracts and proofs use. The limits of document 01 are the code's, which takes them from crate rank1: a wrong
+-- one is refused there where the calls meet document 01's numbers. The other numbers stand here and in src/sizes.rt, since nothing else that is proved
+-- would tell a wrong one.
+use Rattle.std.specs.Prelude.{ℕ, ◌*◌}
+use Rattle.planner.specs.declared.sizes.TheConstants.{AXES, MOST_ROWS, LARGEST_MODULUS, MOST_MIRRORS}
 
 -- ---- the limits of document 01
 abbrev pub axes : ℕ
@@ -26,32 +27,32 @@ abbrev pub largest_size : ℕ
 largest_size = 510
 
 abbrev pub middle : ℕ
-middle = MIDDLE
+middle = 511
 
 abbrev pub places : ℕ
-places = PLACES
+places = 1024
 
 abbrev pub product_room : ℕ
-product_room = PRODUCT_ROOM
+product_room = axes * places
 
 -- ---- the rows that end by an axis: so many numbers for each axis
 abbrev pub level_room : ℕ
-level_room = LEVEL_ROOM
+level_room = most_rows * axes
 
 -- ---- differences: how many members pairs are made of, how many differences there is room for, and the slots of their hash
 abbrev pub most_members : ℕ
-most_members = MOST_MEMBERS
+most_members = 4096
 
 abbrev pub room : ℕ
-room = ROOM
+room = 12288
 
 abbrev pub slot_count : ℕ
-slot_count = SLOTS
+slot_count = 32768
 
 -- one run for each last component on each axis: a difference ends with a component from 1 to 510
 abbrev pub lasts : ℕ
-lasts = LASTS
+lasts = 512
 
 -- numbers in the tables of solutions, n for each last component
 abbrev pub solution_room : ℕ
-solution_room = SOLUTION_ROOM
+solution_room = 262144

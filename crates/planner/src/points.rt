@@ -57,9 +57,10 @@ impl<'a> Cutting<'a> {
         requires { (i < self.now.n) × (length line.old ≡ length self.now.z.now) }
         ensures { line.new ≡ point_line (plan_number self.now.plan) self.now.n self.now.z.now i }
     {
-        line.copy_from_slice(self.z);
-        for x in line.iter_mut() {
-            *x = self.entry(i, *x);
+        // kept: j is the axis of a setting and of its place in the line: `copy_from_slice` and then `iter_mut` calls `memmove` for each line, which
+        // takes longer than all else where a line has one number.
+        for j in 0..line.len() {
+            line[j] = self.entry(i, self.z[j]);
         }
     }
 

@@ -123,6 +123,20 @@ impl<'r, 'a> Lattice<'r, 'a> {
             }
         }
     }
+
+    // The same with tables of its own. Integration and plan A have no table of owners: to set one up takes longer than all else for a few
+    // rows.
+    fn decides_rule(&self) -> bool
+        ensures { Decides result (Keeps self.now) }
+    {
+        match self.rows.plan {
+            Plan::Integration => self.integrates(),
+            Plan::A => self.all_mirrors_apart(&mut [false; LARGEST_MODULUS]),
+            Plan::Fourier | Plan::B | Plan::C => {
+                self.keeps_rule(&mut [None; LARGEST_MODULUS], &mut [false; LARGEST_MODULUS])
+            }
+        }
+    }
 }
 
 // The plan's rule of the rows and a valid pair, with tables of its own.
@@ -132,7 +146,5 @@ pub(crate) fn admits(rows: &Rows, n: u16, z: &[u16]) -> bool
     ensures { result ≡ admissible (plan_number rows.now.plan) (rows_in rows.now) n (map pos z.now) }
 {
     let mut products = [0u16; PRODUCT_ROOM];
-    let mut owners = [None; LARGEST_MODULUS];
-    let mut taken = [false; LARGEST_MODULUS];
-    Lattice::of(rows, n, z, &mut products).keeps_rule(&mut owners, &mut taken)
+    Lattice::of(rows, n, z, &mut products).decides_rule()
 }

@@ -1,4 +1,5 @@
-// The sizes of the tables, by name; specs/Sizes.antt gives them the names that contracts have.
+// The sizes of the tables, by name; specs/Sizes.antt gives them the names that contracts have, and has the numbers that are this crate's own, so
+// that a wrong one is refused.
 // kept: a table of several axes is one run, at axis * SIZE + place, and no array of arrays: what clauses say of each of its numbers, as that it is
 // small or still 0, they say of one list. And no array of arrays holds `bounds`, where the last run of an axis ends at the number where the first
 // of the next begins, nor `struck`, where mark n of an axis can be mark 0 of the next.

@@ -48,9 +48,12 @@ fn answer_request(asked: &Request, writer: &mut Writer)
     } = *asked;
     let mut z = [0u16; MOST_AXES];
     let found = planner::search_smallest(u8::from(plan), d, rows, ceiling, &mut z[..d]);
-    let n = match found {
-        Ok(n) => n,
-        Err(refusal) => return writer.refusal(refusal),
+    // The form that document 01 names for the answer of a search.
+    let Ok(n) = found else {
+        if let Err(refusal) = found {
+            writer.refusal(refusal);
+        }
+        return;
     };
     writer.plan(n, &z[..d]);
     if plan != Plan::Integration {

@@ -1,6 +1,6 @@
 // Reading a request: fields, lines, the whole text. A reader takes what it reads from the front of the text and keeps what is left.
 
-ghost use Rattle.std.specs.Prelude.{◌≡◌, ◌*◌, ◌≤◌, ◌<◌, true, None, ℕ, List, length, take_while, IfOk};
+ghost use Rattle.std.specs.Prelude.{◌≡◌, ◌*◌, ◌≤◌, ◌<◌, min, true, None, ℕ, List, length, take_while, IfOk};
 ghost use Rattle.rank1.specs.Named.{plan_number, refused};
 ghost use Rattle.rank1.specs.Tests.{every};
 ghost use Rattle.request.specs.Text.{is_digit, decimal};
@@ -203,11 +203,14 @@ impl<'a> Reader<'a> {
     }
 }
 
-// How many digits stand at the front of a text.
+// How many digits stand at the front of a text, counted up to one more than a field may have.
 fn digit_count(text: &[u8]) -> usize
-    ensures { result ≡ length (take_while is_digit text.now) }
+    ensures { result ≡ min 7 (length (take_while is_digit text.now)) }
 {
-    text.iter().take_while(|b| b.is_ascii_digit()).count()
+    text.iter()
+        .take(MOST_DIGITS + 1)
+        .take_while(|b| b.is_ascii_digit())
+        .count()
 }
 
 // The number that a few digits write.

@@ -1,5 +1,6 @@
 -- The pairs by plan. Each pair that is gone through is one that the plan keeps apart, so its difference is avoided (`pairs_avoided`);
--- where all members are there, each pair that the plan keeps apart is gone through, as it stands or turned (`pairs_complete`).
+-- where all members are there, each pair that the plan keeps apart is gone through, as it stands or turned (`pairs_complete`, of any number of
+-- members; of a table of them `members_complete`).
 use mathlib.Core.Path.{◌≡◌, refl, sym, ◌∙◌, ap, subst}
 use mathlib.Core.Logic.{◌≢◌, ◌⊎◌, inl, inr, ⊎_elim}
 use mathlib.Core.Bool.{Bool, true, false, cond}
@@ -12,7 +13,7 @@ use lib.Dec.{leb}
 use lib.IntN.{ℤ, pos, nat_abs}
 use lib.ListN.{length, get_or, take, drop, length-replicate}
 use lib.Seq.{take_all}
-use Rattle.rank1.specs.Index.{zero_row, mirrors, mirrored, row_count, index_list}
+use Rattle.rank1.specs.Index.{zero_row, mirrors, mirrored, row_count, rows_of, index_list}
 use Rattle.rank1.specs.Rule.{Admissible}
 use Rattle.rank1.specs.Sums.{mirrors_under}
 use Rattle.rank1.specs.Valid.{ValidList}
@@ -29,7 +30,7 @@ use Rattle.planner.specs.Members.{Kin, MemberAt, AllMembers}
 use Rattle.planner.specs.declared.members.Members.{Members}
 use Rattle.planner.specs.declared.table.Differences.{Differences}
 use Rattle.std.proofs.Common.{Option}
-use Rattle.planner.specs.Table.{Below, RowPairs, BehindPairs, PlanPairs, EitherSign, Made, GrownTo, RowRun, Pairable}
+use Rattle.planner.specs.Table.{Below, Pairs, Turns, MemberPair, PairsFrom, RowPairs, BehindPairs, PlanPairs, EitherSign, Made, GrownTo, RowRun, Pairable}
 use Rattle.planner.proofs.products.ProductLaws.{covered_take, covered_drop}
 
 -- ---- runs of rows
@@ -227,22 +228,57 @@ pairs_avoided plan d rows members =
     (avoided_against d rows members) (avoided_others d rows members) plan
 
 -- ---- each pair that is kept apart is gone through
+-- This is of any lists: of `count` members, the first rows of a run, and of the numbers of the rows that own them. Nothing bounds how many they are, as
+-- the room in a table of members does. The words are those of specs/Members and specs/Table, which say the same of such a table (`members_complete`)
+module _ (d count : ℕ) (members : List ℤ) (owners : List ℕ) where
+  -- s is one of the members, and belongs to row i
+  pub record MemberAmong (i : ℕ) (s : List ℤ) : Type 0 where
+    pub place : ℕ
+    pub inside : place < count
+    pub owned : get_or owners place 0 ≡ i
+    pub is : get_or (rows_of d count members) place [] ≡ s
+
+  -- every mirror of every row of the list is among them
+  pub record AllAmong (plan : ℕ) (ks : List (List ℤ)) : Type 0 where
+    pub there : (i : ℕ) → i < length ks → (s : List ℤ) → Memᴰ s (mirrors_under plan (get_or ks i [])) → MemberAmong i s
+
+  -- member e with row i; under plan 4 only where the row does not own it
+  pub record PairAmong (plan : ℕ) (rows : List ℤ) (i e : ℕ) (s t : List ℤ) : Type 0 where
+    pub other : plan ≡ 4 → get_or owners e 0 ≢ i
+    pub left : s ≡ row_at d members e
+    pub right : t ≡ row_at d rows i
+
+  -- all members with each row
+  abbrev pub RowsAmong : ℕ → List ℤ → Pairs
+  RowsAmong plan rows = Turns 0 (row_count d rows) (λ i. Turns 0 count (PairAmong plan rows i))
+
+  -- the members behind number i with member i, for each
+  abbrev pub BehindAmong : ℕ → Pairs
+  BehindAmong plan = Turns 0 count (λ i. Turns (i + 1) count (PairAmong plan members i))
+
+-- the pairs by plan
+abbrev pub PlanAmong : (plan d count : ℕ) (rows members : List ℤ) (owners : List ℕ) → Pairs
+PlanAmong zero d count rows members owners = RowsAmong d count members owners 0 (zero_row d)
+PlanAmong (suc zero) d count rows members owners = BehindAmong d count members owners 1
+PlanAmong (suc (suc zero)) d count rows members owners = BehindAmong d count members owners 2
+PlanAmong (suc (suc (suc p))) d count rows members owners = RowsAmong d count members owners (suc (suc (suc p))) rows
+
 -- a list has t - s where it has s - t
 has_turned : (D : List (List ℤ)) (s t : List ℤ) → Has D (minus t s) → Has D (minus s t)
 has_turned D s t (inl m) = inr (subst (λ (h : List ℤ). Memᴰ h D) (minus-swap s t) m)
 has_turned D s t (inr m) = inl (subst (λ (h : List ℤ). Memᴰ h D) (ap negative (minus-swap s t) ∙ negative-negative (minus s t)) m)
 
 -- D has the differences of different rows that are a pair of the plan
-abbrev pub HasPairs : (plan d : ℕ) (rows : List ℤ) (members : Members) (D : List (List ℤ)) → Type 0
-HasPairs plan d rows members D = (s t : List ℤ) → PlanPairs plan d rows members s t → s ≢ t → Has D (minus s t)
+abbrev pub HasPairs : (plan d count : ℕ) (rows members : List ℤ) (owners : List ℕ) (D : List (List ℤ)) → Type 0
+HasPairs plan d count rows members owners D = (s t : List ℤ) → PlanAmong plan d count rows members owners s t → s ≢ t → Has D (minus s t)
 
-module _ (plan d : ℕ) (rows : List ℤ) (members : Members) (all : AllMembers plan d (index_list d rows) members) where
+module _ (plan d count : ℕ) (rows members : List ℤ) (owners : List ℕ) (all : AllAmong d count members owners plan (index_list d rows)) where
   -- a mirror of a row of the list is a member that the row owns
   record Standing (k s : List ℤ) : Type 0 where
     pub number : ℕ
     pub inside : number < length (index_list d rows)
     pub is : get_or (index_list d rows) number [] ≡ k
-    pub member : MemberAt d number members s
+    pub member : MemberAmong d count members owners number s
 
   standing : (k s : List ℤ) → Memᴰ k (index_list d rows) → Memᴰ s (mirrors_under plan k) → Standing k s
   standing k s m o = go (place_of (index_list d rows) k [] m)
@@ -256,13 +292,13 @@ module _ (plan d : ℕ) (rows : List ℤ) (members : Members) (all : AllMembers 
       }
 
   -- the member, as the code reads it
-  member_is : (i : ℕ) (s : List ℤ) (a : MemberAt d i members s) → s ≡ row_at d members.rows a.place
-  member_is i s a = sym a.is ∙ row_at_lem d members.count members.rows a.place a.inside
+  member_is : (i : ℕ) (s : List ℤ) (a : MemberAmong d count members owners i s) → s ≡ row_at d members a.place
+  member_is i s a = sym a.is ∙ row_at_lem d count members a.place a.inside
 
   -- a member and one behind it
   behind :
-      plan ≢ 4 → (i j : ℕ) (s t : List ℤ) (a : MemberAt d i members s) (b : MemberAt d j members t)
-      → b.place < a.place → BehindPairs plan d members.rows members s t
+      plan ≢ 4 → (i j : ℕ) (s t : List ℤ) (a : MemberAmong d count members owners i s) (b : MemberAmong d count members owners j t)
+      → b.place < a.place → BehindAmong d count members owners plan s t
   behind n i j s t a b l = record {
     turn = b.place;
     low = zero-le;
@@ -278,17 +314,17 @@ module _ (plan d : ℕ) (rows : List ℤ) (members : Members) (all : AllMembers 
   -- so the difference of any two different members is there
   two-members :
       (D : List (List ℤ)) → plan ≢ 4
-      → ((s t : List ℤ) → BehindPairs plan d members.rows members s t → s ≢ t → Has D (minus s t))
-      → (i j : ℕ) (s t : List ℤ) → MemberAt d i members s → MemberAt d j members t → s ≢ t → Has D (minus s t)
+      → ((s t : List ℤ) → BehindAmong d count members owners plan s t → s ≢ t → Has D (minus s t))
+      → (i j : ℕ) (s t : List ℤ) → MemberAmong d count members owners i s → MemberAmong d count members owners j t → s ≢ t → Has D (minus s t)
   two-members D n f i j s t a b o =
       ⊎_elim (λ l. has_turned D s t (f t s (behind n j i t s b a l) (λ e. o (sym e))))
-      (⊎_elim (λ e. absurd (o (member_is i s a ∙ ap (row_at d members.rows) e ∙ sym (member_is j t b)))) (λ l. f s t (behind n i j s t a b l) o))
+      (⊎_elim (λ e. absurd (o (member_is i s a ∙ ap (row_at d members) e ∙ sym (member_is j t b)))) (λ l. f s t (behind n i j s t a b l) o))
       (compared a.place b.place)
 
   -- and that of a member and a row; under plan 4 of one that does not own it
   member-row :
       (D : List (List ℤ))
-      → ((s t : List ℤ) → RowPairs plan d rows members s t → s ≢ t → Has D (minus s t))
+      → ((s t : List ℤ) → RowsAmong d count members owners plan rows s t → s ≢ t → Has D (minus s t))
       → (k s t : List ℤ) → Standing k s → Memᴰ t (index_list d rows) → (plan ≡ 4 → t ≢ k) → s ≢ t → Has D (minus s t)
   member-row D f k s t a m other o = go (place_of (index_list d rows) t [] m)
     where
@@ -316,25 +352,25 @@ module _ (plan d : ℕ) (rows : List ℤ) (members : Members) (all : AllMembers 
           inside = omega (arith, p.inside, rows-length d (row_count d rows) rows)
 
 -- the list of a plan's pairs is complete
-abbrev pub PairsComplete : (plan d : ℕ) (rows : List ℤ) (members : Members) → Type 0
-PairsComplete plan d rows members =
-    ValidList plan d rows → AllMembers plan d (index_list d rows) members
-    → (D : List (List ℤ)) → HasPairs plan d rows members D → Complete plan (index_list d rows) D
+abbrev pub PairsComplete : (plan d count : ℕ) (rows members : List ℤ) (owners : List ℕ) → Type 0
+PairsComplete plan d count rows members owners =
+    ValidList plan d rows → AllAmong d count members owners plan (index_list d rows)
+    → (D : List (List ℤ)) → HasPairs plan d count rows members owners D → Complete plan (index_list d rows) D
 
 -- plan 0
-complete_zeros : (d : ℕ) (rows : List ℤ) (members : Members) → PairsComplete 0 d rows members
-complete_zeros d rows members v all D f s t (m, n, e) =
+complete_zeros : (d count : ℕ) (rows members : List ℤ) (owners : List ℕ) → PairsComplete 0 d count rows members owners
+complete_zeros d count rows members owners v all D f s t (m, n, e) =
     subst (λ (r : List ℤ). Has D (minus s r)) (sym e)
     (subst (Has D) (ap (minus s) zeros ∙ minus-zeros s)
     (f s (row_at d (zero_row d) 0) pair (λ q. n (q ∙ zeros))))
   where
-    a : Standing 0 d rows members all s s
-    a = standing 0 d rows members all s s m (under_self 0 s)
+    a : Standing 0 d count rows members owners all s s
+    a = standing 0 d count rows members owners all s s m (under_self 0 s)
 
     zeros : row_at d (zero_row d) 0 ≡ zero_row (length s)
     zeros = zero_row_lem d ∙ ap zero_row (sym (member_length d (row_count d rows) rows s (omega (arith, v.whole)) m))
 
-    pair : PlanPairs 0 d rows members s (row_at d (zero_row d) 0)
+    pair : PlanAmong 0 d count rows members owners s (row_at d (zero_row d) 0)
     pair = record {
       turn = 0;
       low = zero-le;
@@ -343,25 +379,25 @@ complete_zeros d rows members v all D f s t (m, n, e) =
         turn = a.member.place;
         low = zero-le;
         high = a.member.inside;
-        pair = record { other = λ q. absurd (omega arith); left = member_is 0 d rows members all a.number s a.member; right = refl };
+        pair = record { other = λ q. absurd (omega arith); left = member_is 0 d count rows members owners all a.number s a.member; right = refl };
       };
     }
 
 -- plan 1
-complete_rows : (d : ℕ) (rows : List ℤ) (members : Members) → PairsComplete 1 d rows members
-complete_rows d rows members v all D f s t (m, o, n) =
-    two-members 1 d rows members all D (λ q. omega arith) f a.number b.number s t a.member b.member n
+complete_rows : (d count : ℕ) (rows members : List ℤ) (owners : List ℕ) → PairsComplete 1 d count rows members owners
+complete_rows d count rows members owners v all D f s t (m, o, n) =
+    two-members 1 d count rows members owners all D (λ q. omega arith) f a.number b.number s t a.member b.member n
   where
-    a : Standing 1 d rows members all s s
-    a = standing 1 d rows members all s s m (under_self 1 s)
+    a : Standing 1 d count rows members owners all s s
+    a = standing 1 d count rows members owners all s s m (under_self 1 s)
 
-    b : Standing 1 d rows members all t t
-    b = standing 1 d rows members all t t o (under_self 1 t)
+    b : Standing 1 d count rows members owners all t t
+    b = standing 1 d count rows members owners all t t o (under_self 1 t)
 
 -- plan 2
-complete_mirrors : (d : ℕ) (rows : List ℤ) (members : Members) → PairsComplete 2 d rows members
-complete_mirrors d rows members v all D f s t (m, o, n) =
-    two-members 2 d rows members all D (λ q. omega arith) f a.number b.number s t a.member b.member n
+complete_mirrors : (d count : ℕ) (rows members : List ℤ) (owners : List ℕ) → PairsComplete 2 d count rows members owners
+complete_mirrors d count rows members owners v all D f s t (m, o, n) =
+    two-members 2 d count rows members owners all D (λ q. omega arith) f a.number b.number s t a.member b.member n
   where
     p : Mirror (index_list d rows) s
     p = mirrored-out (index_list d rows) s m
@@ -369,28 +405,74 @@ complete_mirrors d rows members v all D f s t (m, o, n) =
     q : Mirror (index_list d rows) t
     q = mirrored-out (index_list d rows) t o
 
-    a : Standing 2 d rows members all p.row s
-    a = standing 2 d rows members all p.row s p.listed p.mirror
+    a : Standing 2 d count rows members owners all p.row s
+    a = standing 2 d count rows members owners all p.row s p.listed p.mirror
 
-    b : Standing 2 d rows members all q.row t
-    b = standing 2 d rows members all q.row t q.listed q.mirror
+    b : Standing 2 d count rows members owners all q.row t
+    b = standing 2 d count rows members owners all q.row t q.listed q.mirror
 
 -- plan 3
-complete_against : (d : ℕ) (rows : List ℤ) (members : Members) → PairsComplete 3 d rows members
-complete_against d rows members v all D f s t (k, m, o, i, n) =
-    member-row 3 d rows members all D f k s t (standing 3 d rows members all k s o i) m (λ q. absurd (omega arith)) n
+complete_against : (d count : ℕ) (rows members : List ℤ) (owners : List ℕ) → PairsComplete 3 d count rows members owners
+complete_against d count rows members owners v all D f s t (k, m, o, i, n) =
+    member-row 3 d count rows members owners all D f k s t (standing 3 d count rows members owners all k s o i) m (λ q. absurd (omega arith)) n
 
 -- plan 4
-complete_others : (d : ℕ) (rows : List ℤ) (members : Members) → PairsComplete 4 d rows members
-complete_others d rows members v all D f s t (k, m, o, n, i) =
-    member-row 4 d rows members all D f k s t (standing 4 d rows members all k s o i) m (λ _. n)
+complete_others : (d count : ℕ) (rows members : List ℤ) (owners : List ℕ) → PairsComplete 4 d count rows members owners
+complete_others d count rows members owners v all D f s t (k, m, o, n, i) =
+    member-row 4 d count rows members owners all D f k s t (standing 4 d count rows members owners all k s o i) m (λ _. n)
     (λ e. n (same_row_lem t t k (v.unsigned (omega arith) t m) (v.unsigned (omega arith) k o) (mirror_self t) (Memᴰ.cast (sym e) i)))
 
 -- all plans
-pub pairs_complete : (plan d : ℕ) (rows : List ℤ) (members : Members) → plan ≤ 4 → PairsComplete plan d rows members
-pairs_complete plan d rows members =
-    by_plan (λ k. PairsComplete k d rows members) (complete_zeros d rows members) (complete_rows d rows members) (complete_mirrors d rows members)
-    (complete_against d rows members) (complete_others d rows members) plan
+pub pairs_complete : (plan d count : ℕ) (rows members : List ℤ) (owners : List ℕ) → plan ≤ 4 → PairsComplete plan d count rows members owners
+pairs_complete plan d count rows members owners =
+    by_plan (λ k. PairsComplete k d count rows members owners) (complete_zeros d count rows members owners) (complete_rows d count rows members owners)
+    (complete_mirrors d count rows members owners) (complete_against d count rows members owners) (complete_others d count rows members owners) plan
+
+-- ---- the same of a table of members
+-- pairs turn by turn
+turns-map :
+    (from to : ℕ) (P Q : ℕ → Pairs) (s t : List ℤ) → ((i : ℕ) → P i s t → Q i s t) → Turns from to P s t → Turns from to Q s t
+turns-map from to P Q s t f p = record { turn = p.turn; low = p.low; high = p.high; pair = f p.turn p.pair }
+
+module _ (d : ℕ) (m : Members) (s t : List ℤ) where
+  pair-as : (plan i e : ℕ) (rows : List ℤ) → PairAmong d m.count m.rows m.owners plan rows i e s t → MemberPair plan d rows m i e s t
+  pair-as plan i e rows p = record { other = p.other; left = p.left; right = p.right }
+
+  from-as :
+      (plan from i : ℕ) (rows : List ℤ) → Turns from m.count (PairAmong d m.count m.rows m.owners plan rows i) s t
+      → PairsFrom plan d from rows m i s t
+  from-as plan from i rows =
+      turns-map from m.count (PairAmong d m.count m.rows m.owners plan rows i) (MemberPair plan d rows m i) s t (λ e. pair-as plan i e rows)
+
+  rows-as : (plan : ℕ) (rows : List ℤ) → RowsAmong d m.count m.rows m.owners plan rows s t → RowPairs plan d rows m s t
+  rows-as plan rows =
+      turns-map 0 (row_count d rows) (λ i. Turns 0 m.count (PairAmong d m.count m.rows m.owners plan rows i)) (PairsFrom plan d 0 rows m) s t
+      (λ i. from-as plan 0 i rows)
+
+  behind-as : (plan : ℕ) → BehindAmong d m.count m.rows m.owners plan s t → BehindPairs plan d m.rows m s t
+  behind-as plan =
+      turns-map 0 m.count (λ i. Turns (i + 1) m.count (PairAmong d m.count m.rows m.owners plan m.rows i)) (λ i. PairsFrom plan d (i + 1) m.rows m i)
+      s t (λ i. from-as plan (i + 1) i m.rows)
+
+  plan-as : (plan : ℕ) (rows : List ℤ) → PlanAmong plan d m.count rows m.rows m.owners s t → PlanPairs plan d rows m s t
+  plan-as zero rows = rows-as 0 (zero_row d)
+  plan-as (suc zero) rows = behind-as 1
+  plan-as (suc (suc zero)) rows = behind-as 2
+  plan-as (suc (suc (suc p))) rows = rows-as (suc (suc (suc p))) rows
+
+-- its members are all there, as the lists say it
+all-as : (plan d : ℕ) (ks : List (List ℤ)) (m : Members) → AllMembers plan d ks m → AllAmong d m.count m.rows m.owners plan ks
+all-as plan d ks m a = record { there = λ i l s o. member (a.there i l s o) }
+  where
+    member : {i : ℕ} {s : List ℤ} → MemberAt d i m s → MemberAmong d m.count m.rows m.owners i s
+    member n = record { place = n.place; inside = n.inside; owned = n.owned; is = n.is }
+
+-- so the differences of its pairs are complete
+pub members_complete :
+    (plan d : ℕ) (rows : List ℤ) (m : Members) → plan ≤ 4 → ValidList plan d rows → AllMembers plan d (index_list d rows) m
+    → (D : List (List ℤ)) → ((s t : List ℤ) → PlanPairs plan d rows m s t → s ≢ t → Has D (minus s t)) → Complete plan (index_list d rows) D
+members_complete plan d rows m l v all D has =
+    pairs_complete plan d m.count rows m.rows m.owners l v (all-as plan d (index_list d rows) m all) D (λ s t p. has s t (plan-as d m s t plan rows p))
 
 -- ---- the pairs of a plan, as the code goes through them
 module _ (d : ℕ) (rows : List ℤ) (members : Members) (t t' : Differences) where

@@ -19,7 +19,7 @@ use Rattle.planner.specs.declared.members.Members.{Members}
 use Rattle.planner.specs.declared.table.Differences.{Differences}
 use Rattle.planner.proofs.differences.PairLaws.{has_stays}
 use Rattle.planner.proofs.rule.RuleIndex.{few_plans}
-use Rattle.planner.proofs.differences.PlanLaws.{made-avoided, pairs_complete}
+use Rattle.planner.proofs.differences.PlanLaws.{made-avoided, members_complete}
 
 -- ---- a table with no rows
 pub none_found : (t : Differences) → t.count ≡ 0 → (h : List ℤ) → Memᴰ h (rows_found t) → ⊥
@@ -56,7 +56,7 @@ module _ (rows : Rows) (members : Members) (t t' : Differences)
     found = record {
       sound = λ h m. ⊎_elim (sound h) (avoided h) (grown.only h m);
       complete = λ w.
-          pairs_complete (plan_number rows.plan) rows.d rows.numbers.now members (few_plans rows.plan) rows.valid (all (grown.was w)) (rows_found t')
+          members_complete (plan_number rows.plan) rows.d rows.numbers.now members (few_plans rows.plan) rows.valid (all (grown.was w)) (rows_found t')
           (grown.all w);
     };
   }

@@ -1,5 +1,5 @@
--- A row with the other sign at an axis, as the code makes it (`flip-set`), and what a table that stays itself says of the rule
--- (`sign-closed`).
+-- A row with the other sign at an axis, as the code makes it (`flip-set`), and what differences that stay themselves say of the rule: of any
+-- list of them (`sign-closed`), and of the table (`table-closed`).
 use mathlib.Core.Path.{◌≡◌, refl, sym, ◌∙◌, ap, subst}
 use mathlib.Core.Bool.{true}
 use mathlib.Core.List.{List, [], ◌∷◌}
@@ -12,7 +12,7 @@ use mir.Val.{SFits, to_z, of_z}
 use mir.Facts.{to_z-of_z}
 use Rattle.rank1.specs.Axes.{flip}
 use Rattle.rank1.specs.Rule.{Admissible}
-use Rattle.rank1.specs.Differences.{Closed, Flips}
+use Rattle.rank1.specs.Differences.{Sound, Complete, Closed, Flips}
 use Rattle.rank1.proofs.MirrorLaws.{sizes_at}
 use Rattle.rank1.proofs.FlipLaws.{flip-sizes, plan_a_flips}
 use Rattle.rank1.proofs.DifferenceLaws.{differences-flip}
@@ -45,11 +45,23 @@ flip-set (suc j) (x ∷ xs) = ap (λ (l : List ℤ). x ∷ l) (flip-set j xs)
 pub covered_flip : (top j : ℕ) (xs : List ℤ) → Covered top xs → Covered top (flip j xs)
 covered_flip top j xs c = record { narrow = c.narrow; covered = λ i. omega (arith, sizes_at (flip j xs) xs (flip-sizes j xs) i, c.covered i) }
 
--- ---- the table
--- plan 2 sees no sign
-pub sign-all : (plan j : ℕ) (t : Differences) → plan ≡ 2 → SeesNoSign plan j t
-sign-all plan j t e ks f = subst (λ (p : ℕ). Flips j (Admissible p ks)) (sym e) (plan_a_flips ks j)
+-- ---- lists of differences
+-- plan 2 sees no sign, whatever its list
+pub sign-all : (plan j : ℕ) → plan ≡ 2 → (ks : List (List ℤ)) → Flips j (Admissible plan ks)
+sign-all plan j e ks = subst (λ (p : ℕ). Flips j (Admissible p ks)) (sym e) (plan_a_flips ks j)
 
--- a table that has all differences and stays itself: the rule of its lists does not see the sign
-pub sign-closed : (plan j : ℕ) (t : Differences) → t.whole ≡ true → Closed j (rows_found t) → SeesNoSign plan j t
-sign-closed plan j t e closed ks f = differences-flip plan ks (rows_found t) j f.sound (f.complete e) closed
+-- where D stays itself, and has all differences of a list and none but avoided ones, the rule of the list does not see the sign: D is any list of
+-- differences, of rows of any length
+pub sign-closed :
+    (plan j : ℕ) (D : List (List ℤ)) → Closed j D → (ks : List (List ℤ)) → Sound (Admissible plan ks) D → Complete plan ks D
+    → Flips j (Admissible plan ks)
+sign-closed plan j D closed ks sound complete = differences-flip plan ks D j sound complete closed
+
+-- ---- the table
+-- so under plan 2 no list whose differences a table has sees the sign
+pub table-all : (plan j : ℕ) (t : Differences) → plan ≡ 2 → SeesNoSign plan j t
+table-all plan j t e ks f = sign-all plan j e ks
+
+-- and none does where the table has all differences and stays itself
+pub table-closed : (plan j : ℕ) (t : Differences) → t.whole ≡ true → Closed j (rows_found t) → SeesNoSign plan j t
+table-closed plan j t e closed ks f = sign-closed plan j (rows_found t) closed ks f.sound (f.complete e)

@@ -24,7 +24,8 @@ returns-in_err-tally c =
     let k = c.in_err-tally.field-0.0 in
     let result = c.from_residual-in_err-tally.result in
     let told : refused result ≡ number k = search rules in
-    between_refused a.plan a.d a.rows.now a.low a.high a.z.now k result told (refused_list a.plan a.d a.rows.now a.high (length a.z.now) k c.in_err-tally.ensures)
+    let list : number k ≡ tally_refusal a.plan a.d a.rows.now = search rules in
+    between_refused a.plan a.d a.rows.now a.low a.high a.z.now k result told (refused_list a.plan a.d a.rows.now a.high (length a.z.now) k list)
 
 pub returns-in_err-range_refusal : goal.returns-in_err-range_refusal
 returns-in_err-range_refusal c =

@@ -20,7 +20,7 @@ use Rattle.std.proofs.Common.{Bor, Iter, Some}
 use Rattle.std.proofs.lemmas.Fn.{fronts}
 use Rattle.std.proofs.lemmas.Iterator.{zips}
 use Rattle.std.proofs.lemmas.Slice.Zip.{zip_turn}
-use Rattle.planner.specs.Inner.{place}
+use Rattle.planner.specs.Inner.{place, KeptBelow}
 use Rattle.planner.specs.Sizes.{axes, largest_modulus, lasts, places, product_room, room, largest_size}
 use Rattle.planner.specs.declared.sieve.Run.{Run}
 use Rattle.planner.specs.declared.tables.ListTables.{ListTables}
@@ -222,9 +222,27 @@ table-cut n t r u solutions e s =
 pub barred_more : (n : ℕ) (X : ℕ → Type 0) (old new newer : List Bool) → MarkedFor n X old new → MarkedFor n X new newer → MarkedFor n X old newer
 barred_more n X old new newer s k = record { size = k.size ∙ s.size; reason = λ v l m. ⊎_elim (s.reason v l) inr (k.reason v l m) }
 
-module _ (n j : ℕ) (T : ListTables) (products sums : List ℕ) where
+-- ---- the marks of an axis
+-- This is of any lists: nothing asks that the bounds rise, as they do in the tables of a list. The words are those of specs/Sieve, which say the same of
+-- such tables (`table_sieved`)
+module _ (n j : ℕ) (components : List ℤ) (bounds products sums : List ℕ) where
+  -- v is forbidden by a difference that ends there
+  pub record ForbiddenIn (v : ℕ) : Type 0 where
+    pub last : ℕ
+    pub which : ℕ
+    pub small : last < lasts
+    pub from : get_or bounds (suc j * lasts + last) 0 ≤ which
+    pub to : which < get_or bounds (suc (suc j * lasts + last)) 0
+    pub solved : (part_at n j components products sums which + last * v) % n ≡ 0
+
+  -- each mark of the axis is forbidden; the marks of the axes before it stay
+  pub record SievedIn (old new : List Bool) : Type 0 where
+    pub size : length new ≡ length old
+    pub kept : KeptBelow false (suc j * largest_modulus) old new
+    pub reason : (v : ℕ) → v < n → Marked new (suc j * largest_modulus + v) → ForbiddenIn v
+
   -- the marks of one axis put back among all marks
-  pub sieved : (old marks : List Bool) (k : ℕ) → suc j < axes → k ≡ suc n → n ≤ largest_modulus → length old ≡ suc (axes * largest_modulus) → length marks ≡ k → ((v : ℕ) → v < n → Marked marks v → Forbidden n j T products sums v) → Sieved n j T products sums old (pasted ((j + 1) * largest_modulus) k old marks)
+  pub sieved : (old marks : List Bool) (k : ℕ) → suc j < axes → k ≡ suc n → n ≤ largest_modulus → length old ≡ suc (axes * largest_modulus) → length marks ≡ k → ((v : ℕ) → v < n → Marked marks v → ForbiddenIn v) → SievedIn old (pasted ((j + 1) * largest_modulus) k old marks)
   sieved old marks k a e h size same s = record {
     size = pasted-size ((j + 1) * largest_modulus) k old marks fits same;
     kept = λ i l. pasted-before ((j + 1) * largest_modulus) k old marks fits same false i (omega arith);
@@ -238,3 +256,17 @@ module _ (n j : ℕ) (T : ListTables) (products sums : List ℕ) where
       stands v l =
           ap (λ (i : ℕ). get_or (pasted ((j + 1) * largest_modulus) k old marks) (i + v) false) (omega arith)
           ∙ pasted_at ((j + 1) * largest_modulus) k old marks fits same false v (omega arith)
+
+-- of the tables of a list
+module _ (n j : ℕ) (T : ListTables) (products sums : List ℕ) where
+  forbidden-in : (v : ℕ) → Forbidden n j T products sums v → ForbiddenIn n j T.components T.bounds products sums v
+  forbidden-in v f = record { last = f.last; which = f.which; small = f.small; from = f.from; to = f.to; solved = f.solved }
+
+  forbidden-out : (v : ℕ) → ForbiddenIn n j T.components T.bounds products sums v → Forbidden n j T products sums v
+  forbidden-out v f = record { last = f.last; which = f.which; small = f.small; from = f.from; to = f.to; solved = f.solved }
+
+  pub table_sieved : (old marks : List Bool) (k : ℕ) → suc j < axes → k ≡ suc n → n ≤ largest_modulus → length old ≡ suc (axes * largest_modulus) → length marks ≡ k → ((v : ℕ) → v < n → Marked marks v → Forbidden n j T products sums v) → Sieved n j T products sums old (pasted ((j + 1) * largest_modulus) k old marks)
+  table_sieved old marks k a e h size same s = record { size = all.size; kept = all.kept; reason = λ v l m. forbidden-out v (all.reason v l m) }
+    where
+      all : SievedIn n j T.components T.bounds products sums old (pasted ((j + 1) * largest_modulus) k old marks)
+      all = sieved n j T.components T.bounds products sums old marks k a e h size same (λ v l m. forbidden-in v (s v l m))

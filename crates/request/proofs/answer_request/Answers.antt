@@ -61,7 +61,7 @@ searched c =
 
 pub returns-in-Err : goal.returns-in-Err
 returns-in-Err c =
-    refused_answered (searched (goal.at.returns-in-Err c).After-search_smallest-found) c.in-Err.refusal c.refusal.new.self c.in-Err.is
+    refused_answered (searched (goal.at.returns-in-Err c).After-search_smallest-found) c.in-Err.refusal c.refusal.new.self (c.in_default.is ∙ c.in-Err.is)
     (c.refusal.ensures ∙ ap (λ (s : List ℕ). s ++ refusal_text (number c.in-Err.refusal)) c.requires.1)
 
 -- n and z are written

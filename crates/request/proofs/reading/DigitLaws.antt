@@ -1,14 +1,15 @@
 -- Digits: those at the front of a text are its front (digits_front) and as many as pass the test one behind the other
--- (digits_taken); and the number that a few digits write, grown by one digit a turn (Valued, for value_of).
+-- (digits_taken), and of its first few bytes as many, up to their number (digits_few); and the number that a few digits write,
+-- grown by one digit a turn (Valued, for value_of).
 use mathlib.Core.Path.{◌≡◌, refl, sym, ◌∙◌, ap, subst}
 use mathlib.Core.Bool.{Bool, true, false, cond}
 use mathlib.Core.List.{List, [], ◌∷◌, ◌++◌}
-use Prim.Native.Nat.{ℕ, zero, suc, ◌+◌, ◌-◌, ◌*◌, ◌^◌, ◌≤◌, ◌<◌}
+use Prim.Native.Nat.{ℕ, zero, suc, ◌+◌, ◌-◌, ◌*◌, ◌^◌, ◌≤◌, ◌<◌, min}
 use native.Mathlib.Nat.{pow-suc}
 use native.Mathlib.Numerals.{add-one}
 use native.Mathlib.Omega.{arith}
 use lib.ListN.{length, get_or, take}
-use lib.Seq.{take-suc}
+use lib.Seq.{take-nil, take-suc}
 use Rattle.std.specs.List.{take_while}
 use Rattle.std.proofs.lemmas.List.Sums.{take_while-cons}
 use Rattle.rank1.specs.Tests.{every}
@@ -38,6 +39,19 @@ all_digits (b ∷ s) = go (is_digit b) refl (all_digits s)
 pub digits_taken : (s : List ℕ) → take_while is_digit s ≡ digits s
 digits_taken [] = refl
 digits_taken (b ∷ s) = take_while-cons is_digit b s ∙ ap (λ (r : List ℕ). cond (is_digit b) (b ∷ r) []) (digits_taken s)
+
+-- of the first n bytes, those at the front that are digits are as many as of the text, up to n
+pub digits_few : (n : ℕ) (s : List ℕ) → length (take_while is_digit (take n s)) ≡ min n (length (take_while is_digit s))
+digits_few n [] = ap (λ (s : List ℕ). length (take_while is_digit s)) (take-nil n) ∙ omega arith
+digits_few zero (b ∷ s) = omega arith
+digits_few (suc n) (b ∷ s) =
+    ap length (take_while-cons is_digit b (take n s))
+    ∙ go (is_digit b) (digits_few n s)
+    ∙ ap (λ (r : List ℕ). min (suc n) (length r)) (sym (take_while-cons is_digit b s))
+  where
+    go : (t : Bool) → length (take_while is_digit (take n s)) ≡ min n (length (take_while is_digit s)) → length (cond t (b ∷ take_while is_digit (take n s)) []) ≡ min (suc n) (length (cond t (b ∷ take_while is_digit s) []))
+    go true e = omega (arith, e)
+    go false e = omega arith
 
 -- ---- the number that digits write
 decimal-last : (v : ℕ) (s : List ℕ) (b : ℕ) → decimal_from v (s ++ (b ∷ [])) ≡ decimal_from v s * 10 + (b - 48)

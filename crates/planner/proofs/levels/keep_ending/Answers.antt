@@ -50,8 +50,8 @@ overflow_add-at c = search (rules, fits (goal.at.overflow_add-at c).In-Some)
 pub offset_bounds-out-at : goal.offset_bounds-out-at
 offset_bounds-out-at c = search (rules, fits (goal.at.offset_bounds-out-at c).In-Some)
 
-pub slice_bounds-copy_from_slice-end : goal.slice_bounds-copy_from_slice-end
-slice_bounds-copy_from_slice-end c = search (rules, fits (goal.at.slice_bounds-copy_from_slice-end c).In-Some)
+pub slice_bounds-copy-end : goal.slice_bounds-copy-end
+slice_bounds-copy-end c = search (rules, fits (goal.at.slice_bounds-copy-end c).In-Some)
 
 pub loop-row-preserved : goal.loop-row-preserved
 loop-row-preserved c =
@@ -62,9 +62,9 @@ loop-row-preserved c =
     let turned =
     keep-turn rows.d c.args.j (length l.yielded) rows.numbers.now row rows.valid.some_axes rows.valid.whole here.0 here.1 c.args.out.now l.out l.at
     c.requires l.invariant in
-    let written : put_mid l.at (l.at + length row - l.at) l.out c.copy_from_slice.new.self ≡ paste l.out l.at row (length row) =
-    put_mid-paste _ _ l.out _ row (length row) c.copy_from_slice.ensures.after (omega arith) refl in
-    subst (λ (i : ℕ). Keeping rows.d c.args.j i rows.numbers.now c.args.out.now (put_mid l.at (l.at + length row - l.at) l.out c.copy_from_slice.new.self) (l.at + length row))
+    let written : put_mid l.at (l.at + length row - l.at) l.out c.copy.new.places ≡ paste l.out l.at row (length row) =
+    put_mid-paste _ _ l.out _ row (length row) c.copy.ensures (omega arith) refl in
+    subst (λ (i : ℕ). Keeping rows.d c.args.j i rows.numbers.now c.args.out.now (put_mid l.at (l.at + length row - l.at) l.out c.copy.new.places) (l.at + length row))
     (sym (length_push l.yielded c.in-Some.row))
     (subst (λ (new : List ℤ). Keeping rows.d c.args.j (length l.yielded + 1) rows.numbers.now c.args.out.now new (l.at + length row)) (sym written) turned)
 

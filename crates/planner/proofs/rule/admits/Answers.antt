@@ -9,7 +9,7 @@ pub returns : goal.returns
 returns c =
     let made = c.of.ensures in
     let lattice = c.of.result in
-    let r = c.keeps_rule in
+    let r = c.decides_rule in
     let told = rule_is (rows_in lattice.rows) lattice.n (map pos lattice.z.now) (plan_number lattice.rows.plan) r.result r.ensures.yes r.ensures.no in
     let listed = rw made.0 at told in
     let modulus = rw made.1 at listed in

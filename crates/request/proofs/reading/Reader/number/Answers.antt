@@ -2,7 +2,7 @@
 -- (number_taken).
 use mathlib.Core.Path.{◌≡◌, sym, ap, ◌∙◌}
 use mathlib.Core.List.{List}
-use Prim.Native.Nat.{ℕ, ◌<◌}
+use Prim.Native.Nat.{ℕ, ◌≤◌, ◌<◌, min}
 use lib.ListN.{length, get_or, take, drop}
 use Rattle.rank1.specs.Tests.{every}
 use Rattle.request.specs.Text.{is_digit, digits, decimal}
@@ -13,9 +13,13 @@ use Rattle.request.proofs.reading.UnsignedLaws.{number_none, number-many, number
 use Rattle.request.proofs.reading.Reader.number.Goals as goal
 use Rattle.request.proofs.reading.Reader.number.Goals.{After-digit_count-count, After-value_of, else-count-gt1-via-then-count-gt1+else-self-eq48, else-count-gt1-via-else-count-gt1, then-count-lt1-via-then-count-lt1, then-count-lt1-via-else-count-lt1+then-count-gt-MOST_DIGITS}
 
--- the digits that were counted
-counted : (c : After-digit_count-count) → c.digit_count-count.result ≡ length (digits c.self.inside.left.now)
-counted c = c.digit_count-count.ensures ∙ ap length (digits_taken c.self.inside.left.now)
+-- the digits that were counted, up to 7
+counted : (c : After-digit_count-count) → c.digit_count-count.result ≡ min 7 (length (digits c.self.inside.left.now))
+counted c = c.digit_count-count.ensures ∙ ap (λ (s : List ℕ). min 7 (length s)) (digits_taken c.self.inside.left.now)
+
+-- all of them, where they are at most 6
+all_counted : (c : After-digit_count-count) → c.digit_count-count.result ≤ 6 → c.digit_count-count.result ≡ length (digits c.self.inside.left.now)
+all_counted c few = omega (arith, counted c, few)
 
 pub returns-then-count-lt1 : goal.returns-then-count-lt1
 returns-then-count-lt1 c = ap read_number (sym c.self.view_is) ∙ elim c.then-count-lt1.branch [
@@ -32,8 +36,8 @@ returns-then-self-eq48 c =
 pub value_of-requires : goal.value_of-requires
 value_of-requires c =
     let s = c.self.inside.left.now in
-    let front : c.split_at.result.0.now ≡ digits s =
-    c.split_at.ensures.front ∙ ap (λ (n : ℕ). take n s) (counted (goal.at.value_of-requires c).After-digit_count-count) ∙ sym (digits_front s) in
+    let count = all_counted (goal.at.value_of-requires c).After-digit_count-count (omega arith) in
+    let front : c.split_at.result.0.now ≡ digits s = c.split_at.ensures.front ∙ ap (λ (n : ℕ). take n s) count ∙ sym (digits_front s) in
     (omega (arith, c.split_at.ensures.front_len), ap (every is_digit) front ∙ all_digits s)
 
 -- no zero stands before other digits
@@ -46,7 +50,7 @@ unpadded c more zero = elim c.else-count-gt1.branch [
 pub returns : goal.returns
 returns c =
     let s = c.self.inside.left.now in
-    let count = counted (goal.at.returns c).After-digit_count-count in
+    let count = all_counted (goal.at.returns c).After-digit_count-count (omega arith) in
     ap read_number (sym c.self.view_is)
     ∙ number_taken s (omega (arith, count)) (omega (arith, count)) (unpadded c)
     ∙ ap (λ (n : ℕ). got (decimal (take n s)) (drop n s)) (sym count)
